@@ -1,0 +1,14 @@
+use borrow.Author.Needs.{needs}
+use Rattle.entries.specs.Entries.{withOf}
+use Rattle.entries.proofs.data.Entry.with.Statement.{statement}
+use Rattle.entries.proofs.data.Entry.with.Tie as tie
+use Rattle.entries.proofs.data.Entry.with.Reads as reads
+use Rattle.entries.proofs.data.Entry.with.Lts as lts
+
+-- src/data.rt:276:5
+returns : tie.Need-returns
+unfolding withOf
+returns c = search needs
+
+pub with-spec : {M : Type 1} → statement M
+with-spec = tie.close (tie.spec returns)

@@ -1,0 +1,4 @@
+pub mod Kinds
+pub mod Ranges
+pub mod Refusals
+pub mod Entries

@@ -1,0 +1,50 @@
+-- The refusals of a posting, and checks in order.
+use Prim.Native.Nat.{ℕ}
+use mathlib.Core.Bool.{Bool, true, false}
+use mathlib.Core.List.{List, [], _∷_}
+use Rattle.entries.specs.declared.refusals.Refusal.{Refusal}
+use Rattle.entries.specs.declared.refusals.Refusal.the-variants as no
+use Rattle.entries.specs.declared.refusals.Check.{Check}
+use Rattle.entries.specs.declared.refusals.Check.the-variants.{Passed, Refused}
+
+-- document 01's number of a refusal
+abbrev pub refusalNumber : Refusal → ℕ
+refusalNumber no.UnknownKind = 1
+refusalNumber no.UnknownNode = 2
+refusalNumber no.UnknownAccount = 3
+refusalNumber no.UnknownDay = 4
+refusalNumber no.FieldOutOfRange = 5
+refusalNumber no.SerialNotNew = 6
+refusalNumber no.BookFull = 7
+refusalNumber no.NotOnChain = 8
+refusalNumber no.DepositState = 9
+refusalNumber no.DayBefore = 10
+refusalNumber no.Closed = 11
+refusalNumber no.PeriodOver = 12
+refusalNumber no.PeriodRunning = 13
+refusalNumber no.OnePhase = 14
+refusalNumber no.MetresExceeded = 15
+refusalNumber no.CorrectedBefore = 16
+
+abbrev pub first : Check → Refusal → Check
+first Passed n = Refused n
+first (Refused m) n = Refused m
+
+-- after the checks so far, a rule that is broken or not
+unfoldable pub ruleOf : Check → Bool → Refusal → Check
+ruleOf c true n = first c n
+ruleOf c false n = c
+
+-- a row of a table of checks: where the test is true, the refusal
+pub record Row : Type 0 where
+  pub broken : Bool
+  pub refusal : Refusal
+
+infix 10 _⇒_
+abbrev pub _⇒_ : Bool → Refusal → Row
+b ⇒ n = record { broken = b; refusal = n }
+
+-- the refusal of the first broken rule of a table
+abbrev pub firstOf : Check → List Row → Check
+firstOf c [] = c
+firstOf c (r ∷ rs) = firstOf (ruleOf c (r .broken) (r .refusal)) rs

@@ -1,0 +1,291 @@
+// An entry as the book keeps it: common fields, and the data of its kind.
+use crate::kinds::Kind;
+use measures::Cents;
+use measures::Day;
+use measures::Metres;
+ghost use mathlib.Core.Path.{_≡_};
+ghost use Rattle.entries.specs.Entries.{noEntry, otherOf, sumOf, oneMore, namedOf, refundedOf, expiredOf, restatedOf, withOf};
+
+// What was posted and what became of it, by kind. The case is the kind.
+pub enum Data {
+    Unused,
+    Contribution {
+        amount: Cents,
+        built: Metres,
+        phases: u8,
+        held: Cents,
+        to_arrears: Cents,
+        paid_out: Cents,
+        retained: Cents,
+        added: u16,
+        closed: bool,
+    },
+    AddedCustomer {
+        named_node: u8,
+        named_serial: u32,
+        shared: Metres,
+        phases: u8,
+    },
+    Bill {
+        charge: Cents,
+        period: u16,
+        served: u8,
+        standing: Cents,
+        corrected: bool,
+    },
+    Payment {
+        amount: Cents,
+        standing: Cents,
+        corrected: bool,
+    },
+    Deposit {
+        amount: Cents,
+        rate: u16,
+    },
+    DepositReturn,
+    Expiry {
+        named_node: u8,
+        named_serial: u32,
+    },
+    Correction {
+        named_node: u8,
+        named_serial: u32,
+        amount: Cents,
+    },
+}
+
+pub struct Entry {
+    pub node: u8,
+    pub account: u16,
+    pub day: Day,
+    pub serial: u32,
+    // The number of the account's previous entry, 0 where there is none.
+    pub next: u16,
+    pub data: Data,
+}
+
+// What the rules read of a named entry. A field that its kind does not have is zero or false.
+pub struct Named {
+    pub kind: Kind,
+    pub amount: Cents,
+    pub built: Metres,
+    pub phases: u8,
+    pub held: Cents,
+    pub added: u16,
+    pub closed: bool,
+    pub standing: Cents,
+    pub corrected: bool,
+}
+
+impl Named {
+    // Of an entry that no rule reads but for its kind.
+    fn other(kind: Kind) -> Named
+        ensures { λ r. ⌜ r ≡ otherOf kind ⌝ }
+    {
+        Named {
+            kind,
+            amount: Cents(0),
+            built: Metres(0),
+            phases: 0,
+            held: Cents(0),
+            added: 0,
+            closed: false,
+            standing: Cents(0),
+            corrected: false,
+        }
+    }
+
+    // Of a bill or a payment.
+    fn sum(kind: Kind, standing: Cents, corrected: bool) -> Named
+        ensures { λ r. ⌜ r ≡ sumOf kind standing corrected ⌝ }
+    {
+        Named {
+            kind,
+            amount: Cents(0),
+            built: Metres(0),
+            phases: 0,
+            held: Cents(0),
+            added: 0,
+            closed: false,
+            standing,
+            corrected,
+        }
+    }
+}
+
+// One more, and the largest count where it does not fit.
+fn one_more(n: u16) -> u16
+    ensures { λ r. ⌜ r ≡ oneMore n ⌝ }
+{
+    if n < 65535 { n + 1 } else { 65535 }
+}
+
+impl Data {
+    pub fn named(self) -> Named
+        ensures { λ r. ⌜ r ≡ namedOf self ⌝ }
+    {
+        match self {
+            Data::Contribution {
+                amount,
+                built,
+                phases,
+                held,
+                to_arrears: _,
+                paid_out: _,
+                retained: _,
+                added,
+                closed,
+            } => Named {
+                kind: Kind::Contribution,
+                amount,
+                built,
+                phases,
+                held,
+                added,
+                closed,
+                standing: Cents(0),
+                corrected: false,
+            },
+            Data::Bill {
+                charge: _,
+                period: _,
+                served: _,
+                standing,
+                corrected,
+            } => Named::sum(Kind::Bill, standing, corrected),
+            Data::Payment {
+                amount: _,
+                standing,
+                corrected,
+            } => Named::sum(Kind::Payment, standing, corrected),
+            Data::AddedCustomer { .. } => Named::other(Kind::AddedCustomer),
+            Data::Deposit { .. } => Named::other(Kind::Deposit),
+            Data::DepositReturn => Named::other(Kind::DepositReturn),
+            Data::Expiry { .. } => Named::other(Kind::Expiry),
+            Data::Correction { .. } => Named::other(Kind::Correction),
+            Data::Unused => Named::other(Kind::Unknown),
+        }
+    }
+
+    // A contribution after a refund, of which a part settled arrears and the rest was paid out.
+    pub fn refunded(self, refund: Cents, settled: Cents, rest: Cents) -> Data
+        ensures { λ r. ⌜ r ≡ refundedOf self refund settled rest ⌝ }
+    {
+        match self {
+            Data::Contribution {
+                amount,
+                built,
+                phases,
+                held,
+                to_arrears,
+                paid_out,
+                retained,
+                added,
+                closed,
+            } => Data::Contribution {
+                amount,
+                built,
+                phases,
+                held: held.minus(refund),
+                to_arrears: to_arrears.plus(settled),
+                paid_out: paid_out.plus(rest),
+                retained,
+                added: one_more(added),
+                closed,
+            },
+            _ => self,
+        }
+    }
+
+    // A contribution after its expiry: what was held is retained, and it is closed.
+    pub fn expired(self) -> Data
+        ensures { λ r. ⌜ r ≡ expiredOf self ⌝ }
+    {
+        match self {
+            Data::Contribution {
+                amount,
+                built,
+                phases,
+                held,
+                to_arrears,
+                paid_out,
+                retained: _,
+                added,
+                closed: _,
+            } => Data::Contribution {
+                amount,
+                built,
+                phases,
+                held: Cents(0),
+                to_arrears,
+                paid_out,
+                retained: held,
+                added,
+                closed: true,
+            },
+            _ => self,
+        }
+    }
+
+    // A bill or payment after its correction.
+    pub fn restated(self, amount: Cents) -> Data
+        ensures { λ r. ⌜ r ≡ restatedOf self amount ⌝ }
+    {
+        match self {
+            Data::Bill {
+                charge,
+                period,
+                served,
+                standing: _,
+                corrected: _,
+            } => Data::Bill {
+                charge,
+                period,
+                served,
+                standing: amount,
+                corrected: true,
+            },
+            Data::Payment {
+                amount: posted,
+                standing: _,
+                corrected: _,
+            } => Data::Payment {
+                amount: posted,
+                standing: amount,
+                corrected: true,
+            },
+            _ => self,
+        }
+    }
+}
+
+impl Entry {
+    // A place of the book that holds no entry.
+    pub fn unused() -> Entry
+        ensures { λ r. ⌜ r ≡ noEntry ⌝ }
+    {
+        Entry {
+            node: 0,
+            account: 0,
+            day: Day(0),
+            serial: 0,
+            next: 0,
+            data: Data::Unused,
+        }
+    }
+
+    // The entry with other data of its kind.
+    pub fn with(self, what: Data) -> Entry
+        ensures { λ r. ⌜ r ≡ withOf self what ⌝ }
+    {
+        let day = self.day;
+        Entry {
+            node: self.node,
+            account: self.account,
+            day,
+            serial: self.serial,
+            next: self.next,
+            data: what,
+        }
+    }
+}

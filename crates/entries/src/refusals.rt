@@ -1,0 +1,69 @@
+// The refusals of a posting, and a check that stops at the first.
+ghost use mathlib.Core.Path.{_≡_};
+ghost use Rattle.entries.specs.Refusals.{refusalNumber, ruleOf};
+
+// One case for each of document 01's numbers, in its order.
+pub enum Refusal {
+    UnknownKind,
+    UnknownNode,
+    UnknownAccount,
+    UnknownDay,
+    FieldOutOfRange,
+    SerialNotNew,
+    BookFull,
+    NotOnChain,
+    DepositState,
+    DayBefore,
+    Closed,
+    PeriodOver,
+    PeriodRunning,
+    OnePhase,
+    MetresExceeded,
+    CorrectedBefore,
+}
+
+// What the checks so far found.
+pub enum Check {
+    Passed,
+    Refused(Refusal),
+}
+
+impl Refusal {
+    // Document 01's number.
+    pub fn number(self) -> u8
+        ensures { λ r. ⌜ r ≡ refusalNumber self ⌝ }
+    {
+        match self {
+            Refusal::UnknownKind => 1,
+            Refusal::UnknownNode => 2,
+            Refusal::UnknownAccount => 3,
+            Refusal::UnknownDay => 4,
+            Refusal::FieldOutOfRange => 5,
+            Refusal::SerialNotNew => 6,
+            Refusal::BookFull => 7,
+            Refusal::NotOnChain => 8,
+            Refusal::DepositState => 9,
+            Refusal::DayBefore => 10,
+            Refusal::Closed => 11,
+            Refusal::PeriodOver => 12,
+            Refusal::PeriodRunning => 13,
+            Refusal::OnePhase => 14,
+            Refusal::MetresExceeded => 15,
+            Refusal::CorrectedBefore => 16,
+        }
+    }
+}
+
+impl Check {
+    // The next rule: its refusal stands where the rule is broken and none before it was.
+    pub fn rule(self, broken: bool, refusal: Refusal) -> Check
+        ensures { λ r. ⌜ r ≡ ruleOf self broken refusal ⌝ }
+    {
+        if let Check::Passed = self {
+            if broken {
+                return Check::Refused(refusal);
+            }
+        }
+        self
+    }
+}

@@ -1,0 +1,20 @@
+-- Rounding (document 01, kinds 3 and 6): one definition and one law, for any divisor.
+use Prim.Native.Nat.{ℕ, _+_, _-_, _*_, _/_, _<_, _≤_}
+use mathlib.Core.Path.{_≡_}
+
+-- n by d to the nearest whole number, an exact half upwards
+unfoldable pub rounded : ℕ → ℕ → ℕ
+rounded n d = (2 * n + d) / (2 * d)
+
+-- how far two numbers are apart
+abbrev pub gap : ℕ → ℕ → ℕ
+gap a b = a - b + (b - a)
+
+-- q is n / d to the nearest whole number, and the upper one where n / d is halfway between two
+pub record Nearest (n d q : ℕ) : Type 0 where
+  pub nearest : (m : ℕ) → gap n (q * d) ≤ gap n (m * d)
+  pub half-up : (m : ℕ) → 2 * n ≡ 2 * (m * d) + d → q ≡ m + 1
+
+-- the law, for any divisor; proofs/Rounding.antt shows it
+abbrev pub Rounds : Type 0
+Rounds = (n d : ℕ) → 0 < d → Nearest n d (rounded n d)

@@ -1,0 +1,98 @@
+// Measures: whole cents, days from 2000-01-01, whole metres. Each is a type of its own, so that no sum mixes two of them.
+ghost use mathlib.Core.Path.{_≡_};
+ghost use Rattle.measures.specs.Cents.{plusOf, minusOf, leastOf, timesOf, overOf, roundedOf};
+ghost use Rattle.measures.specs.Days.{sinceOf};
+
+pub struct Cents(pub u64);
+
+// Day 0 is 2000-01-01.
+pub struct Day(pub u16);
+
+pub struct Metres(pub u16);
+
+impl Cents {
+    pub const MOST: u64 = 18446744073709551615;
+
+    // The sum, and the largest amount where it does not fit.
+    pub fn plus(self, other: Cents) -> Cents
+        ensures { λ r. ⌜ r ≡ plusOf self other ⌝ }
+    {
+        if other.0 <= Cents::MOST - self.0 {
+            Cents(self.0 + other.0)
+        } else {
+            Cents(Cents::MOST)
+        }
+    }
+
+    // The difference, and 0 where it would be negative.
+    pub fn minus(self, other: Cents) -> Cents
+        ensures { λ r. ⌜ r ≡ minusOf self other ⌝ }
+    {
+        if other.0 <= self.0 {
+            Cents(self.0 - other.0)
+        } else {
+            Cents(0)
+        }
+    }
+
+    // The smaller of the two.
+    pub fn least(self, other: Cents) -> Cents
+        ensures { λ r. ⌜ r ≡ leastOf self other ⌝ }
+    {
+        if other.0 <= self.0 { other } else { self }
+    }
+
+    // The product, and the largest amount where it does not fit.
+    pub fn times(self, n: u64) -> Cents
+        ensures { λ r. ⌜ r ≡ timesOf self n ⌝ }
+    {
+        if n == 0 {
+            return Cents(0);
+        }
+        if self.0 <= Cents::MOST / n {
+            Cents(self.0 * n)
+        } else {
+            Cents(Cents::MOST)
+        }
+    }
+
+    // The quotient rounded down, and 0 by 0.
+    pub fn over(self, divisor: u64) -> Cents
+        ensures { λ r. ⌜ r ≡ overOf self divisor ⌝ }
+    {
+        if divisor == 0 {
+            Cents(0)
+        } else {
+            Cents(self.0 / divisor)
+        }
+    }
+
+    // The quotient to the nearest cent, an exact half upwards, and 0 by 0.
+    pub fn rounded(self, divisor: u64) -> Cents
+        ensures { λ r. ⌜ r ≡ roundedOf self divisor ⌝ }
+    {
+        if divisor == 0 {
+            return Cents(0);
+        }
+        let whole = self.0 / divisor;
+        let rest = self.0 % divisor;
+        if divisor - rest <= rest {
+            Cents(whole + 1)
+        } else {
+            Cents(whole)
+        }
+    }
+}
+
+impl Day {
+    // The days from an earlier day to this one, and 0 where that day is later.
+    pub fn since(self, earlier: Day) -> u16
+        ensures { λ r. ⌜ r ≡ sinceOf self earlier ⌝ }
+    {
+        if earlier.0 <= self.0 {
+            self.0 - earlier.0
+        } else {
+            0
+        }
+    }
+}

@@ -1,0 +1,127 @@
+-- What an entry of each kind does to its account and to the entry that it names.
+use Prim.Native.Nat.{ℕ}
+use mathlib.Core.Bool.{Bool, true, false}
+use Rattle.measures.specs.Cents.{cents, plusOf, minusOf}
+use Rattle.measures.specs.Days.{day, sinceOf}
+use Rattle.measures.specs.declared.Cents.{Cents}
+use Rattle.entries.specs.Kinds.{sameOf}
+use Rattle.entries.specs.Entries.{metres, namedOf, refundedOf, expiredOf, restatedOf}
+use Rattle.entries.specs.declared.raw.Raw.{Raw}
+use Rattle.entries.specs.declared.kinds.Kind.{Kind}
+use Rattle.entries.specs.declared.kinds.Kind.the-variants as kind
+use Rattle.entries.specs.declared.data.Data.{Data}
+use Rattle.entries.specs.declared.data.Data.the-variants as data′
+use Rattle.entries.specs.declared.refusals.Refusal.the-variants as no
+use Rattle.rules.specs.Accounts.{creditedOf, keptOf, chargedOf, holdingOf}
+use Rattle.rules.specs.Formulas.{billedOf, refundOf, interestOf}
+use Rattle.rules.specs.Answers.{amountsOf}
+use Rattle.rules.specs.declared.accounts.Account.{Account}
+use Rattle.rules.specs.declared.answers.Amounts.{Amounts}
+use Rattle.rules.specs.declared.answers.Answer.{Answer}
+use Rattle.rules.specs.declared.answers.Answer.the-variants as answer
+use Rattle.rules.specs.declared.changes.Found.{Found}
+use Rattle.rules.specs.declared.changes.Found.the-variants.{At, Nothing}
+use Rattle.rules.specs.declared.changes.Change.{Change}
+use Rattle.rules.specs.declared.changes.Outcome.{Outcome}
+use Rattle.rules.specs.declared.changes.Outcome.the-variants.{Refused, Accepted}
+
+abbrev pub nothingOf : Amounts
+nothingOf = amountsOf (cents 0) (cents 0) (cents 0) (cents 0)
+
+abbrev pub changeOf : Account → Data → Found → Data → Amounts → Change
+changeOf acc d names named amounts =
+    record { account = acc; «data» = d; names = names; named = named; amounts = amounts }
+
+-- of an entry that names nothing
+abbrev pub aloneOf : Account → Data → Amounts → Change
+aloneOf acc d amounts = changeOf acc d Nothing data′.Unused amounts
+
+-- 1: held = amount
+unfoldable pub contributionOf : Raw → Account → Change
+contributionOf r acc =
+    let amount = cents (r .amount) in
+    aloneOf acc (data′.Contribution amount (metres (r .a)) (r .b) amount (cents 0) (cents 0) (cents 0) 0 false) nothingOf
+
+-- 2: held falls by the refund; it is credited; what is left over is paid out
+unfoldable pub addedCustomerOf : Raw → Account → Found → Data → Outcome
+addedCustomerOf r acc Nothing d = Refused no.NotOnChain
+addedCustomerOf r acc (At i) d =
+    let refund = refundOf (namedOf d) (metres (r .a)) in
+    let credited = creditedOf acc refund in
+    Accepted
+    (changeOf (credited .account) (data′.AddedCustomer (r .«named_node») (r .«named_serial») (metres (r .a)) (r .b)) (At i)
+    (refundedOf d refund (credited .settled) (credited .left))
+    (amountsOf (credited .settled) (credited .left) (cents 0) (cents 0)))
+
+-- 3: billed is charged
+unfoldable pub billOf : Raw → Account → Change
+billOf r acc =
+    let charge = cents (r .amount) in
+    let standing = billedOf charge (r .b) (r .a) in
+    aloneOf (chargedOf acc standing) (data′.Bill charge (r .a) (r .b) standing false) nothingOf
+
+-- 4: credited; what is left over is added to credit
+unfoldable pub paymentOf : Raw → Account → Change
+paymentOf r acc =
+    let amount = cents (r .amount) in
+    let credited = creditedOf acc amount in
+    aloneOf (keptOf (credited .account) (credited .left)) (data′.Payment amount amount false)
+    (amountsOf (credited .settled) (cents 0) (cents 0) (cents 0))
+
+-- 5: deposit held = amount
+unfoldable pub depositOf : Raw → Account → Change
+depositOf r acc =
+    let amount = cents (r .amount) in
+    aloneOf (holdingOf acc amount (r .a) (day (r .day))) (data′.Deposit amount (r .a)) nothingOf
+
+-- 6: deposit and interest are credited together; what is left over is paid out; deposit held = 0
+unfoldable pub depositReturnOf : Raw → Account → Change
+depositReturnOf r acc =
+    let interest = interestOf (acc .deposit) (acc .rate) (sinceOf (day (r .day)) (acc .deposited)) in
+    let credited = creditedOf acc (plusOf (acc .deposit) interest) in
+    aloneOf (holdingOf (credited .account) (cents 0) 0 (day 0)) data′.DepositReturn
+    (amountsOf (credited .settled) (credited .left) (cents 0) interest)
+
+-- 7: retained = held; held = 0; the contribution is closed
+unfoldable pub expiryOf : Raw → Account → Found → Data → Outcome
+expiryOf r acc Nothing d = Refused no.NotOnChain
+expiryOf r acc (At i) d =
+    Accepted
+    (changeOf acc (data′.Expiry (r .«named_node») (r .«named_serial»)) (At i) (expiredOf d)
+    (amountsOf (cents 0) (cents 0) (namedOf d .held) (cents 0)))
+
+abbrev pub pickOf : Bool → Cents → Cents → Cents
+pickOf true a b = a
+pickOf false a b = b
+
+-- 8: the standing amount becomes the new one. A bill that grows, or a payment that shrinks, charges the difference;
+-- the others credit it, what is left over going to credit. Of `up` and `down` at least one is 0, and moves nothing.
+unfoldable pub correctionOf : Raw → Account → Found → Data → Outcome
+correctionOf r acc Nothing d = Refused no.NotOnChain
+correctionOf r acc (At i) d =
+    let new = cents (r .amount) in
+    let old = namedOf d .standing in
+    let bill = sameOf (namedOf d .kind) kind.Bill in
+    let up = minusOf new old in
+    let down = minusOf old new in
+    let credited = creditedOf (chargedOf acc (pickOf bill up down)) (pickOf bill down up) in
+    Accepted
+    (changeOf (keptOf (credited .account) (credited .left)) (data′.Correction (r .«named_node») (r .«named_serial») new) (At i)
+    (restatedOf d new) (amountsOf (credited .settled) (cents 0) (cents 0) (cents 0)))
+
+-- what an entry that no check refused does; d is the named entry's data
+unfoldable pub effectOf : Raw → Kind → Account → Found → Data → Outcome
+effectOf r kind.Unknown acc f d = Refused no.UnknownKind
+effectOf r kind.Contribution acc f d = Accepted (contributionOf r acc)
+effectOf r kind.AddedCustomer acc f d = addedCustomerOf r acc f d
+effectOf r kind.Bill acc f d = Accepted (billOf r acc)
+effectOf r kind.Payment acc f d = Accepted (paymentOf r acc)
+effectOf r kind.Deposit acc f d = Accepted (depositOf r acc)
+effectOf r kind.DepositReturn acc f d = Accepted (depositReturnOf r acc)
+effectOf r kind.Expiry acc f d = expiryOf r acc f d
+effectOf r kind.Correction acc f d = correctionOf r acc f d
+
+-- an accepted answer carries the entry's number and the four amounts
+unfoldable pub answerOf : Outcome → ℕ → Answer
+answerOf (Refused n) number = answer.Refused n
+answerOf (Accepted c) number = answer.Accepted number (c .amounts)

@@ -1,0 +1,5 @@
+pub mod Accounts
+pub mod Formulas
+pub mod Checks
+pub mod Answers
+pub mod Changes

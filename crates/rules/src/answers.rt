@@ -1,0 +1,66 @@
+// What a posting answers.
+use entries::Refusal;
+use measures::Cents;
+ghost use mathlib.Core.Path.{_≡_};
+ghost use Rattle.rules.specs.Answers.{amountsOf, replyOf};
+
+// The four amounts of an accepted posting: arrears settled by a credit, paid out, retained, interest.
+pub struct Amounts {
+    pub settled: Cents,
+    pub paid_out: Cents,
+    pub retained: Cents,
+    pub interest: Cents,
+}
+
+pub enum Answer {
+    Refused(Refusal),
+    Accepted { number: u16, amounts: Amounts },
+}
+
+// An answer in document 01's numbers.
+pub struct Reply {
+    pub refusal: u8,
+    pub number: u16,
+    pub settled: u64,
+    pub paid_out: u64,
+    pub retained: u64,
+    pub interest: u64,
+}
+
+impl Amounts {
+    pub fn of(settled: Cents, paid_out: Cents, retained: Cents, interest: Cents) -> Amounts
+        ensures { λ r. ⌜ r ≡ amountsOf settled «paid_out» retained interest ⌝ }
+    {
+        Amounts {
+            settled,
+            paid_out,
+            retained,
+            interest,
+        }
+    }
+}
+
+impl Answer {
+    pub fn reply(self) -> Reply
+        ensures { λ r. ⌜ r ≡ replyOf self ⌝ }
+    {
+        match self {
+            Answer::Refused(refusal) => Reply {
+                refusal: refusal.number(),
+                number: 0,
+                settled: 0,
+                paid_out: 0,
+                retained: 0,
+                interest: 0,
+            },
+            Answer::Accepted { number, amounts } => Reply {
+                refusal: 0,
+                number,
+                settled: amounts.settled.0,
+                paid_out: amounts.paid_out.0,
+                retained: amounts.retained.0,
+                interest: amounts.interest.0,
+            },
+        }
+    }
+}

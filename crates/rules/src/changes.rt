@@ -1,0 +1,256 @@
+// What an entry of each kind does to its account and to the entry that it names.
+use crate::accounts::Account;
+use crate::answers::Amounts;
+use crate::answers::Answer;
+use crate::formulas::billed;
+use crate::formulas::interest;
+use crate::formulas::refund;
+use entries::Data;
+use entries::Kind;
+use entries::Raw;
+use entries::Refusal;
+use measures::Cents;
+use measures::Day;
+use measures::Metres;
+ghost use mathlib.Core.Path.{_≡_};
+ghost use Rattle.rules.specs.Changes.{aloneOf, contributionOf, addedCustomerOf, billOf, paymentOf, depositOf, depositReturnOf, expiryOf, pickOf, correctionOf, effectOf, answerOf, nothingOf};
+
+// Where a named entry stands in the book's array.
+pub enum Found {
+    At(usize),
+    Nothing,
+}
+
+pub struct Change {
+    pub account: Account,
+    // The new entry's data.
+    pub data: Data,
+    // The place of the named entry, and its data afterwards.
+    pub names: Found,
+    pub named: Data,
+    pub amounts: Amounts,
+}
+
+pub enum Outcome {
+    Refused(Refusal),
+    Accepted(Change),
+}
+
+impl Change {
+    // Of an entry that names nothing.
+    fn alone(account: Account, what: Data, amounts: Amounts) -> Change
+        ensures { λ r. ⌜ r ≡ aloneOf account what amounts ⌝ }
+    {
+        Change {
+            account,
+            data: what,
+            names: Found::Nothing,
+            named: Data::Unused,
+            amounts,
+        }
+    }
+}
+
+impl Outcome {
+    // The answer, where the entry's number would be `number`.
+    pub fn answer(self, number: u16) -> Answer
+        ensures { λ r. ⌜ r ≡ answerOf self number ⌝ }
+    {
+        match self {
+            Outcome::Refused(refusal) => Answer::Refused(refusal),
+            Outcome::Accepted(change) => {
+                let amounts = change.amounts;
+                Answer::Accepted { number, amounts }
+            }
+        }
+    }
+}
+
+fn nothing() -> Amounts
+    ensures { λ r. ⌜ r ≡ nothingOf ⌝ }
+{
+    Amounts::of(Cents(0), Cents(0), Cents(0), Cents(0))
+}
+
+// 1: held = amount.
+fn contribution(raw: Raw, account: Account) -> Change
+    ensures { λ r. ⌜ r ≡ contributionOf raw account ⌝ }
+{
+    let amount = raw.cents();
+    let what = Data::Contribution {
+        amount,
+        built: Metres(raw.a),
+        phases: raw.b,
+        held: amount,
+        to_arrears: Cents(0),
+        paid_out: Cents(0),
+        retained: Cents(0),
+        added: 0,
+        closed: false,
+    };
+    Change::alone(account, what, nothing())
+}
+
+// 2: the refund is credited; what is left over is paid out.
+fn added_customer(raw: Raw, account: Account, lookup: Found, what: Data) -> Outcome
+    ensures { λ r. ⌜ r ≡ addedCustomerOf raw account lookup what ⌝ }
+{
+    let Found::At(i) = lookup else {
+        return Outcome::Refused(Refusal::NotOnChain);
+    };
+    let back = refund(what.named(), Metres(raw.a));
+    let credited = account.credited(back);
+    let after = credited.account;
+    Outcome::Accepted(Change {
+        account: after,
+        data: Data::AddedCustomer {
+            named_node: raw.named_node,
+            named_serial: raw.named_serial,
+            shared: Metres(raw.a),
+            phases: raw.b,
+        },
+        names: Found::At(i),
+        named: what.refunded(back, credited.settled, credited.left),
+        amounts: Amounts::of(credited.settled, credited.left, Cents(0), Cents(0)),
+    })
+}
+
+// 3: billed is charged.
+fn bill(raw: Raw, account: Account) -> Change
+    ensures { λ r. ⌜ r ≡ billOf raw account ⌝ }
+{
+    let charge = raw.cents();
+    let standing = billed(charge, raw.b, raw.a);
+    let what = Data::Bill {
+        charge,
+        period: raw.a,
+        served: raw.b,
+        standing,
+        corrected: false,
+    };
+    Change::alone(account.charged(standing), what, nothing())
+}
+
+// 4: credited; what is left over is added to credit.
+fn payment(raw: Raw, account: Account) -> Change
+    ensures { λ r. ⌜ r ≡ paymentOf raw account ⌝ }
+{
+    let amount = raw.cents();
+    let credited = account.credited(amount);
+    let what = Data::Payment {
+        amount,
+        standing: amount,
+        corrected: false,
+    };
+    let after = credited.account;
+    Change::alone(
+        after.kept(credited.left),
+        what,
+        Amounts::of(credited.settled, Cents(0), Cents(0), Cents(0)),
+    )
+}
+
+// 5: deposit held = amount.
+fn deposit(raw: Raw, account: Account) -> Change
+    ensures { λ r. ⌜ r ≡ depositOf raw account ⌝ }
+{
+    let amount = raw.cents();
+    let after = account.holding(amount, raw.a as u64, Day(raw.day));
+    Change::alone(
+        after,
+        Data::Deposit {
+            amount,
+            rate: raw.a,
+        },
+        nothing(),
+    )
+}
+
+// 6: deposit and interest are credited together; what is left over is paid out; deposit held = 0.
+fn deposit_return(raw: Raw, account: Account) -> Change
+    ensures { λ r. ⌜ r ≡ depositReturnOf raw account ⌝ }
+{
+    let day = Day(raw.day);
+    let earned = interest(account.deposit, account.rate, day.since(account.deposited));
+    let credited = account.credited(account.deposit.plus(earned));
+    let after = credited.account;
+    let amounts = Amounts::of(credited.settled, credited.left, Cents(0), earned);
+    Change::alone(
+        after.holding(Cents(0), 0, Day(0)),
+        Data::DepositReturn,
+        amounts,
+    )
+}
+
+// 7: retained = held; held = 0; the contribution is closed.
+fn expiry(raw: Raw, account: Account, lookup: Found, what: Data) -> Outcome
+    ensures { λ r. ⌜ r ≡ expiryOf raw account lookup what ⌝ }
+{
+    let Found::At(i) = lookup else {
+        return Outcome::Refused(Refusal::NotOnChain);
+    };
+    let named = what.named();
+    Outcome::Accepted(Change {
+        account,
+        data: Data::Expiry {
+            named_node: raw.named_node,
+            named_serial: raw.named_serial,
+        },
+        names: Found::At(i),
+        named: what.expired(),
+        amounts: Amounts::of(Cents(0), Cents(0), named.held, Cents(0)),
+    })
+}
+
+fn pick(first: bool, a: Cents, b: Cents) -> Cents
+    ensures { λ r. ⌜ r ≡ pickOf first a b ⌝ }
+{
+    if first { a } else { b }
+}
+
+// 8: a bill that grows, or a payment that shrinks, charges the difference; the others credit it, what is left over going to credit.
+fn correction(raw: Raw, account: Account, lookup: Found, what: Data) -> Outcome
+    ensures { λ r. ⌜ r ≡ correctionOf raw account lookup what ⌝ }
+{
+    let Found::At(i) = lookup else {
+        return Outcome::Refused(Refusal::NotOnChain);
+    };
+    let amount = raw.cents();
+    let named = what.named();
+    let kind = named.kind;
+    let bill = kind.is(Kind::Bill);
+    let up = amount.minus(named.standing);
+    let down = named.standing.minus(amount);
+    let credited = account
+        .charged(pick(bill, up, down))
+        .credited(pick(bill, down, up));
+    let after = credited.account;
+    Outcome::Accepted(Change {
+        account: after.kept(credited.left),
+        data: Data::Correction {
+            named_node: raw.named_node,
+            named_serial: raw.named_serial,
+            amount,
+        },
+        names: Found::At(i),
+        named: what.restated(amount),
+        amounts: Amounts::of(credited.settled, Cents(0), Cents(0), Cents(0)),
+    })
+}
+
+// What an entry that no check refused does, by its kind. `what` is the named entry's data.
+pub fn effect(raw: Raw, kind: Kind, account: Account, lookup: Found, what: Data) -> Outcome
+    ensures { λ r. ⌜ r ≡ effectOf raw kind account lookup what ⌝ }
+{
+    match kind {
+        Kind::Unknown => Outcome::Refused(Refusal::UnknownKind),
+        Kind::Contribution => Outcome::Accepted(contribution(raw, account)),
+        Kind::AddedCustomer => added_customer(raw, account, lookup, what),
+        Kind::Bill => Outcome::Accepted(bill(raw, account)),
+        Kind::Payment => Outcome::Accepted(payment(raw, account)),
+        Kind::Deposit => Outcome::Accepted(deposit(raw, account)),
+        Kind::DepositReturn => Outcome::Accepted(deposit_return(raw, account)),
+        Kind::Expiry => expiry(raw, account, lookup, what),
+        Kind::Correction => correction(raw, account, lookup, what),
+    }
+}

@@ -1,0 +1,33 @@
+// The formulas: a bill's billed amount, a contribution's refund, a deposit's interest.
+use entries::Named;
+use measures::Cents;
+use measures::Metres;
+ghost use mathlib.Core.Path.{_≡_};
+ghost use Rattle.rules.specs.Formulas.{billedOf, refundOf, interestOf};
+
+// The charge for the full period, for the days served of it.
+pub fn billed(charge: Cents, served: u8, period: u16) -> Cents
+    ensures { λ r. ⌜ r ≡ billedOf charge served period ⌝ }
+{
+    charge.times(served as u64).rounded(period as u64)
+}
+
+// What one more customer on the line gives back: its share, and not more than is held.
+pub fn refund(named: Named, shared: Metres) -> Cents
+    ensures { λ r. ⌜ r ≡ refundOf named shared ⌝ }
+{
+    let k = named.added as u64 + 2;
+    let share = named
+        .amount
+        .times(shared.0 as u64)
+        .over(named.built.0 as u64 * k);
+    let held = named.held;
+    held.least(share)
+}
+
+// The interest on a deposit at a yearly rate in hundredths of a percent, for a number of days.
+pub fn interest(deposit: Cents, rate: u64, days: u16) -> Cents
+    ensures { λ r. ⌜ r ≡ interestOf deposit rate days ⌝ }
+{
+    deposit.times(rate).times(days as u64).rounded(3650000)
+}
