@@ -1,4 +1,4 @@
--- The refusals of a posting, and checks in order.
+-- The refusals of every call, and checks in order.
 use Prim.Native.Nat.{ℕ}
 use mathlib.Core.Bool.{Bool, true, false}
 use mathlib.Core.List.{List, [], _∷_}
@@ -25,6 +25,12 @@ refusalNumber no.PeriodRunning = 13
 refusalNumber no.OnePhase = 14
 refusalNumber no.MetresExceeded = 15
 refusalNumber no.CorrectedBefore = 16
+refusalNumber no.ImageLength = 17
+refusalNumber no.ImageHeader = 18
+refusalNumber no.ImageCount = 19
+refusalNumber no.NextIndex = 20
+refusalNumber no.BufferShort = 21
+refusalNumber no.ResultsShort = 22
 
 abbrev pub first : Check → Refusal → Check
 first Passed n = Refused n

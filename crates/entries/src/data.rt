@@ -113,8 +113,8 @@ impl Named {
     }
 }
 
-// One more, and the largest count where it does not fit.
-fn one_more(n: u16) -> u16
+// One more, and the largest number where that does not fit.
+pub fn one_more(n: u16) -> u16
     ensures { λ r. ⌜ r ≡ oneMore n ⌝ }
 {
     if n < 65535 { n + 1 } else { 65535 }

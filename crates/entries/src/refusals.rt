@@ -1,4 +1,4 @@
-// The refusals of a posting, and a check that stops at the first.
+// The refusals of every call, and a check that stops at the first.
 ghost use mathlib.Core.Path.{_≡_};
 ghost use Rattle.entries.specs.Refusals.{refusalNumber, ruleOf};
 
@@ -20,6 +20,12 @@ pub enum Refusal {
     OnePhase,
     MetresExceeded,
     CorrectedBefore,
+    ImageLength,
+    ImageHeader,
+    ImageCount,
+    NextIndex,
+    BufferShort,
+    ResultsShort,
 }
 
 // What the checks so far found.
@@ -50,6 +56,12 @@ impl Refusal {
             Refusal::OnePhase => 14,
             Refusal::MetresExceeded => 15,
             Refusal::CorrectedBefore => 16,
+            Refusal::ImageLength => 17,
+            Refusal::ImageHeader => 18,
+            Refusal::ImageCount => 19,
+            Refusal::NextIndex => 20,
+            Refusal::BufferShort => 21,
+            Refusal::ResultsShort => 22,
         }
     }
 }

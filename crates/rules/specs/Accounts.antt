@@ -1,9 +1,10 @@
 -- An account, and the two moves that serve all kinds.
 use Prim.Native.Nat.{ℕ}
-use Rattle.measures.specs.Cents.{cents, plusOf, minusOf, leastOf}
+use Rattle.measures.specs.Cents.{cents, plusOf, minusOf}
 use Rattle.measures.specs.Days.{day}
 use Rattle.measures.specs.declared.Cents.{Cents}
 use Rattle.measures.specs.declared.Day.{Day}
+use Rattle.rules.specs.Moves.{settles, leaves, covers, owes}
 use Rattle.rules.specs.declared.accounts.Account.{Account}
 use Rattle.rules.specs.declared.accounts.Credited.{Credited}
 
@@ -15,14 +16,15 @@ accountOf arrears credit deposit rate deposited newest =
 abbrev pub noAccount : Account
 noAccount = accountOf (cents 0) (cents 0) (cents 0) 0 (day 0) 0
 
--- To credit c: arrears fall by the smaller of c and arrears; the rest is left over.
+-- To credit c
 unfoldable pub creditedOf : Account → Cents → Credited
 creditedOf acc c =
-    let settled = leastOf c (acc .arrears) in
+    let settled = cents (settles (c .0) (acc .arrears .0)) in
     record {
-      account = accountOf (minusOf (acc .arrears) settled) (acc .credit) (acc .deposit) (acc .rate) (acc .deposited) (acc .newest);
+      account =
+          accountOf (minusOf (acc .arrears) settled) (acc .credit) (acc .deposit) (acc .rate) (acc .deposited) (acc .newest);
       settled = settled;
-      left = minusOf c settled;
+      left = cents (leaves (c .0) (acc .arrears .0));
     }
 
 -- what is left over is added to credit
@@ -30,11 +32,15 @@ unfoldable pub keptOf : Account → Cents → Account
 keptOf acc left =
     accountOf (acc .arrears) (plusOf (acc .credit) left) (acc .deposit) (acc .rate) (acc .deposited) (acc .newest)
 
--- To charge c: credit falls by the smaller of c and credit; the rest is added to arrears.
+-- To charge c
 unfoldable pub chargedOf : Account → Cents → Account
 chargedOf acc c =
-    let covered = leastOf c (acc .credit) in
-    accountOf (plusOf (acc .arrears) (minusOf c covered)) (minusOf (acc .credit) covered) (acc .deposit) (acc .rate) (acc .deposited) (acc .newest)
+    accountOf (plusOf (acc .arrears) (cents (owes (c .0) (acc .credit .0))))
+    (minusOf (acc .credit) (cents (covers (c .0) (acc .credit .0))))
+    (acc .deposit)
+    (acc .rate)
+    (acc .deposited)
+    (acc .newest)
 
 -- the account with a deposit held
 unfoldable pub holdingOf : Account → Cents → ℕ → Day → Account

@@ -1,3 +1,4 @@
+pub mod Moves
 pub mod Accounts
 pub mod Formulas
 pub mod Checks

@@ -1,0 +1,83 @@
+-- Laws of the chain: places are inside the arrays, and a search goes link by link.
+use Prim.Native.Nat.{ℕ, zero, suc, _-_, _<_, _≤_}
+use mathlib.Core.Path.{_≡_, refl}
+use mathlib.Core.Bool.{Bool, true, false, cond, _||_}
+use mathlib.Core.List.{List}
+use native.Mathlib.Numerals.{sub-one}
+use native.Mathlib.Omega.{arith}
+use lib.ListN.{getD}
+use lib.Dec.{eqb, ltb}
+use borrow.Author.Tests.{eqb-false, ltb-false}
+use Rattle.entries.specs.Entries.{noEntry, pointsAt}
+use Rattle.entries.specs.declared.raw.Raw.{Raw}
+use Rattle.entries.specs.declared.data.Entry.{Entry}
+use Rattle.rules.specs.declared.changes.Found.{Found}
+use Rattle.rules.specs.declared.changes.Found.the-variants.{At, Nothing}
+use Rattle.book.specs.Fresh.{accountsMost, entriesMost}
+use Rattle.book.specs.Chain.{slotOf, endsOf, findIn}
+
+pub slot-inside : (account : ℕ) → slotOf account < accountsMost
+unfolding slotOf
+slot-inside account = first (eqb account 0) (ltb accountsMost account) refl
+  where
+    first : (s t : Bool) → ltb accountsMost account ≡ t → cond s 0 (cond t 0 (account - 1)) < accountsMost
+    first true t e = omega arith
+    first false true e = omega arith
+    first false false e = omega (arith, ltb-false accountsMost account e)
+
+-- a link that does not end a chain is the number of an entry
+pub link-inside : (at : ℕ) → endsOf at ≡ false → (0 < at) × (at ≤ entriesMost)
+unfolding endsOf
+link-inside at = go (eqb at 0) (ltb entriesMost at) refl refl
+  where
+    go : (s t : Bool) → eqb at 0 ≡ s → ltb entriesMost at ≡ t → s || t ≡ false → (0 < at) × (at ≤ entriesMost)
+    go true t e l h = let z : _≡_ {A = ℕ} 0 1 = cc in absurd (omega arith)
+    go false true e l h = let z : _≡_ {A = ℕ} 0 1 = cc in absurd (omega arith)
+    go false false e l h = let z = eqb-false at 0 e in (omega arith, ltb-false entriesMost at l)
+
+-- what was found before, or else what is found from here
+abbrev pub orElse : Found → Found → Found
+orElse (At i) f = At i
+orElse Nothing f = f
+
+pub orElse-nothing : (f : Found) → orElse f Nothing ≡ f
+orElse-nothing (At i) = refl
+orElse-nothing Nothing = refl
+
+pub findIn-none : (es : List Entry) (r : Raw) (at : ℕ) → findIn es r 0 at ≡ Nothing
+unfolding findIn
+findIn-none es r at = refl
+
+pub findIn-ends : {fuel : ℕ} (es : List Entry) (r : Raw) (at : ℕ) → 0 < fuel → endsOf at ≡ true → findIn es r fuel at ≡ Nothing
+unfolding findIn
+findIn-ends {fuel = zero} es r at h e = absurd (omega arith)
+findIn-ends {fuel = suc f} es r at h e = simp e
+
+pub findIn-hit : {fuel : ℕ} (es : List Entry) (r : Raw) (at : ℕ) → 0 < fuel → endsOf at ≡ false →
+    pointsAt r (getD es (at - 1) noEntry) ≡ true → findIn es r fuel at ≡ At (at - 1)
+unfolding findIn
+findIn-hit {fuel = zero} es r at h e p = absurd (omega arith)
+findIn-hit {fuel = suc f} es r at h e p = simp (e, p)
+
+pub findIn-miss : {fuel : ℕ} (es : List Entry) (r : Raw) (at : ℕ) → 0 < fuel → endsOf at ≡ false →
+    pointsAt r (getD es (at - 1) noEntry) ≡ false → findIn es r fuel at ≡ findIn es r (fuel - 1) (getD es (at - 1) noEntry .next)
+unfolding findIn
+findIn-miss {fuel = zero} es r at h e p = absurd (omega arith)
+findIn-miss {fuel = suc f} es r at h e p = rw (sub-one (suc f)) (simp (e, p))
+
+-- what is found stands in the array
+abbrev pub Inside : Found → Type 0
+Inside (At i) = i < entriesMost
+Inside Nothing = Unit {0}
+
+pub find-inside : (fuel : ℕ) (es : List Entry) (r : Raw) (at : ℕ) → Inside (findIn es r fuel at)
+unfolding findIn endsOf
+find-inside zero es r at = tt
+find-inside (suc fuel) es r at = go (eqb at 0) (ltb entriesMost at) (pointsAt r (getD es (at - 1) noEntry)) refl (find-inside fuel es r (getD es (at - 1) noEntry .next))
+  where
+    go : (s t p : Bool) → ltb entriesMost at ≡ t → Inside (findIn es r fuel (getD es (at - 1) noEntry .next)) →
+        Inside (cond (s || t) Nothing (cond p (At (at - 1)) (findIn es r fuel (getD es (at - 1) noEntry .next))))
+    go true t p e i = tt
+    go false true p e i = tt
+    go false false true e i = omega (arith, ltb-false entriesMost at e)
+    go false false false e i = i

@@ -1,0 +1,99 @@
+-- Laws of a posting: what an accepted one has passed, and what each outcome makes of the book.
+use Prim.Native.Nat.{ℕ, _+_, _<_}
+use mathlib.Core.List.{List}
+use lib.ListN.{getD, set}
+use mathlib.Core.Path.{_≡_, refl, sym, ap, _∙_}
+use mathlib.Core.Bool.{Bool, true, false}
+use native.Mathlib.Omega.{arith}
+use borrow.Author.Tests.{leb-false}
+use Rattle.entries.specs.Kinds.{kindOf}
+use Rattle.entries.specs.Entries.{entryOf, withOf}
+use Rattle.entries.specs.declared.raw.Raw.{Raw}
+use Rattle.entries.specs.declared.kinds.Kind.{Kind}
+use Rattle.entries.specs.declared.kinds.Kind.the-variants as kind
+use Rattle.entries.specs.declared.data.Data.{Data}
+use Rattle.entries.specs.declared.data.Entry.{Entry}
+use Rattle.entries.specs.declared.refusals.Check.{Check}
+use Rattle.entries.specs.declared.refusals.Check.the-variants as check
+use Rattle.entries.specs.declared.refusals.Refusal.{Refusal}
+use Rattle.entries.proofs.Rows.{silent}
+use Rattle.rules.specs.Accounts.{noAccount, numberedOf}
+use Rattle.rules.specs.Answers.{replyOf}
+use Rattle.rules.specs.Checks.{stateRows, checkStateOf}
+use Rattle.rules.specs.Changes.{answerOf, addedCustomerOf, expiryOf, correctionOf, contributionOf, billOf, paymentOf, depositOf, depositReturnOf, effectOf}
+use Rattle.rules.specs.declared.accounts.Account.{Account}
+use Rattle.rules.specs.declared.answers.Answer.{Answer}
+use Rattle.rules.specs.declared.answers.Answer.the-variants as answer
+use Rattle.rules.specs.declared.changes.Change.{Change}
+use Rattle.rules.specs.declared.changes.Found.{Found}
+use Rattle.rules.specs.declared.changes.Found.the-variants.{At, Nothing}
+use Rattle.rules.specs.declared.changes.Outcome.{Outcome}
+use Rattle.rules.specs.declared.changes.Outcome.the-variants.{Refused, Accepted}
+use Rattle.book.specs.Fresh.{entriesMost}
+use Rattle.book.specs.Refusals.{entryRows, checkEntryOf, decidedOf, outcomeOf}
+use Rattle.book.specs.Serials.{lastOf, afterOf}
+use Rattle.book.specs.Chain.{slotOf, startOf}
+use Rattle.book.specs.Posting.{Result, accountAt, namedAt, lookupOf, rewritten, storedOf, bookAfter, decisionOf, postOf}
+use Rattle.book.specs.declared.Book.{Book}
+use Rattle.book.specs.declared.Serials.{Serials}
+use Rattle.book.proofs.Chain.{Inside, find-inside}
+
+decided-passed : (c : Check) (o : Outcome) (x : Change) → decidedOf c o ≡ Accepted x → (c ≡ check.Passed) × (o ≡ Accepted x)
+unfolding decidedOf
+decided-passed check.Passed o x e = (refl, e)
+decided-passed (check.Refused n) o x e = let z : _≡_ {A = ℕ} 0 1 = cc in absurd (omega arith)
+
+-- an accepted entry found the book not full
+pub room : (b : Book) (r : Raw) (x : Change) → decisionOf b r ≡ Accepted x → b .count < entriesMost
+unfolding decisionOf outcomeOf checkStateOf checkEntryOf
+room b r x e =
+    let passed = decided-passed _ _ x e .0 in
+    let early = silent _ (stateRows r (kindOf (r .kind)) (accountAt b (r .account)) (namedAt b r)) passed .0 in
+    let rows = silent _ (entryRows r (kindOf (r .kind)) (b .count) (lastOf (b .last) (r .node))) early .1 in
+    leb-false entriesMost (b .count) (rows .1 .1 .1 .1 .1 .1 .0)
+
+-- what an accepted entry names stands in the array
+abbrev NamesInside : Outcome → Type 0
+NamesInside (Refused n) = Unit {0}
+NamesInside (Accepted c) = Inside (c .names)
+
+effect-inside : (r : Raw) (k : Kind) (acc : Account) (f : Found) (d : Data) → Inside f → NamesInside (effectOf r k acc f d)
+unfolding effectOf addedCustomerOf expiryOf correctionOf contributionOf billOf paymentOf depositOf depositReturnOf
+effect-inside r kind.Unknown acc f d i = tt
+effect-inside r kind.Contribution acc f d i = tt
+effect-inside r kind.AddedCustomer acc (At n) d i = i
+effect-inside r kind.AddedCustomer acc Nothing d i = tt
+effect-inside r kind.Bill acc f d i = tt
+effect-inside r kind.Payment acc f d i = tt
+effect-inside r kind.Deposit acc f d i = tt
+effect-inside r kind.DepositReturn acc f d i = tt
+effect-inside r kind.Expiry acc (At n) d i = i
+effect-inside r kind.Expiry acc Nothing d i = tt
+effect-inside r kind.Correction acc (At n) d i = i
+effect-inside r kind.Correction acc Nothing d i = tt
+
+lookup-inside : (b : Book) (r : Raw) → Inside (lookupOf b r)
+unfolding lookupOf
+lookup-inside b r = find-inside entriesMost (b .entries) r (startOf (kindOf (r .kind)) (accountAt b (r .account) .newest))
+
+pub names-inside : (b : Book) (r : Raw) (x : Change) (i : ℕ) → decisionOf b r ≡ Accepted x → x .names ≡ At i → i < entriesMost
+unfolding decisionOf outcomeOf
+names-inside b r x i e n =
+    let effect = decided-passed _ _ x e .1 in
+    let inside : NamesInside (Accepted x) = rw effect at (effect-inside r (kindOf (r .kind)) (accountAt b (r .account)) (lookupOf b r) (namedAt b r .«data») (lookup-inside b r)) in
+    rw n at inside
+
+pub post-refused : (b : Book) (r : Raw) (n : Refusal) → decisionOf b r ≡ Refused n →
+    postOf b r ≡ record { book = b; reply = replyOf (answer.Refused n) }
+unfolding postOf bookAfter answerOf
+post-refused b r n e = simp e
+
+-- what the stores of an accepted entry make of the book
+pub post-accepted : (b : Book) (r : Raw) (x : Change) (o : Outcome) (a n : ℕ) (acc : Account) (new w : Entry) (es : List Entry) (l : Serials) (ans : Answer) →
+    o ≡ decisionOf b r → o ≡ Accepted x → a ≡ slotOf (r .account) → n ≡ b .count + 1 → acc ≡ numberedOf (x .account) n →
+    new ≡ entryOf r (getD (b .accounts) a noAccount .newest) (x .«data») → w ≡ withOf (namedAt b r) (x .named) →
+    es ≡ rewritten (x .names) w (set (b .entries) (b .count) new) → l ≡ afterOf (b .last) r → ans ≡ answerOf o n →
+    record { book = record { accounts = set (b .accounts) a acc; entries = es; count = n; last = l }; reply = replyOf ans } ≡ postOf b r
+unfolding postOf bookAfter storedOf
+post-accepted b r x o a n acc new w es l ans decided accepted slot number numbered entry with entries after answered =
+    rw (answered, after, entries, with, entry, numbered, number, slot, ← decided, accepted) refl

@@ -1,0 +1,42 @@
+-- An account's chain, and the search for a named entry along it.
+use Prim.Native.Nat.{ℕ, zero, suc, _-_, _<_}
+use mathlib.Core.Path.{_≡_, refl}
+use mathlib.Core.Bool.{Bool, true, false, cond, _||_}
+use mathlib.Core.List.{List}
+use native.Mathlib.Numerals.{sub-one}
+use native.Mathlib.Omega.{arith}
+use lib.ListN.{getD}
+use lib.Dec.{eqb, ltb}
+use Rattle.entries.specs.Kinds.{namesOf}
+use Rattle.entries.specs.Ranges.{between}
+use Rattle.entries.specs.Entries.{noEntry, pointsAt}
+use Rattle.entries.specs.declared.raw.Raw.{Raw}
+use Rattle.entries.specs.declared.kinds.Kind.{Kind}
+use Rattle.entries.specs.declared.data.Entry.{Entry}
+use Rattle.rules.specs.declared.changes.Found.{Found}
+use Rattle.rules.specs.declared.changes.Found.the-variants.{At, Nothing}
+use Rattle.book.specs.Fresh.{accountsMost, entriesMost}
+
+-- the place of an account; 0 where there is no such account
+unfoldable pub slotOf : ℕ → ℕ
+slotOf account = cond (eqb account 0) 0 (cond (ltb accountsMost account) 0 (account - 1))
+
+-- zero ends a chain, and so does a number that no entry can have
+unfoldable pub endsOf : ℕ → Bool
+endsOf at = eqb at 0 || ltb entriesMost at
+
+-- an account's chain begins at its newest entry; a kind that names nothing searches nothing
+unfoldable pub startOf : Kind → ℕ → ℕ
+startOf k newest = cond (namesOf k) newest 0
+
+-- the place of the entry that r names, along at most fuel links from the entry of a number
+unfoldable pub findIn : List Entry → Raw → ℕ → ℕ → Found
+findIn es r zero at = Nothing
+findIn es r (suc fuel) at =
+    let e = getD es (at - 1) noEntry in
+    cond (endsOf at) Nothing (cond (pointsAt r e) (At (at - 1)) (findIn es r fuel (e .next)))
+
+-- the entry found, or an unused one
+unfoldable pub entryAt : List Entry → Found → Entry
+entryAt es Nothing = noEntry
+entryAt es (At i) = getD es i noEntry

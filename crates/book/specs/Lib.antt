@@ -1,0 +1,5 @@
+pub mod Fresh
+pub mod Serials
+pub mod Chain
+pub mod Refusals
+pub mod Posting
