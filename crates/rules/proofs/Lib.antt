@@ -1,1 +1,2 @@
 pub mod Plain
+pub mod Figures

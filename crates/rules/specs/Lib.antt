@@ -4,3 +4,4 @@ pub mod Formulas
 pub mod Checks
 pub mod Answers
 pub mod Changes
+pub mod Figures
