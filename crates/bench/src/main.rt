@@ -29,7 +29,13 @@ fn entry(kind: u8, serial: u32, amount: u32, a: u16, b: u8) -> Raw {
 }
 
 fn numbered(raw: Raw, n: u32) -> Raw {
-    entry(raw.kind, ((raw.serial as u64 + n as u64) % 4294967296) as u32, raw.amount, raw.a, raw.b)
+    entry(
+        raw.kind,
+        ((raw.serial as u64 + n as u64) % 4294967296) as u32,
+        raw.amount,
+        raw.a,
+        raw.b,
+    )
 }
 
 // The time from a moment to now.
@@ -100,7 +106,11 @@ fn main() {
     let customers = run(chain.book, entry(2, 1000, 0, 1, 1), 20000, 20);
     report(b"one copy of the book, nanoseconds: ", copy, 2000);
     report(b"a payment, hundredths of a copy: ", payments.time, copy);
-    report(b"an added customer at the end of a chain of 490 to 509, hundredths of a copy: ", customers.time, copy);
+    report(
+        b"an added customer at the end of a chain of 490 to 509, hundredths of a copy: ",
+        customers.time,
+        copy,
+    );
     io::print_decimal(1, payments.book.count as u64 + customers.book.count as u64);
     io::write_all(1, b"\n");
 }

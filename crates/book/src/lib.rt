@@ -163,7 +163,7 @@ impl Book {
         let mut at = start(Kind::of(raw.kind), newest);
         let mut lookup = Found::Nothing;
         let mut named = Entry::unused();
-        let mut left: u16 = 1024;
+        let mut left = Book::ENTRIES as u16;
         while 0 < left {
             if ends(at) {
                 left = 0;

@@ -101,6 +101,9 @@ start-requires c κs = search needs
 unused-requires : tie.Need-unused-requires Inv-loop μ-loop
 unused-requires c κs = search needs
 
+cast-left : tie.Need-cast-left Inv-loop μ-loop
+cast-left c = search needs
+
 -- src/lib.rt:145:9
 loop-holds : tie.Need-loop-holds Inv-loop μ-loop
 unfolding entryAt
@@ -277,6 +280,7 @@ post-spec =
     of-requires
     start-requires
     unused-requires
+    cast-left
     loop-holds
     ends-requires
     loop-less
