@@ -2,8 +2,7 @@
 use Prim.Native.Nat.{ℕ, _+_, _<_}
 use mathlib.Core.List.{List}
 use lib.ListN.{getD, set}
-use mathlib.Core.Path.{_≡_, refl, sym, ap, _∙_}
-use mathlib.Core.Bool.{Bool, true, false}
+use mathlib.Core.Path.{_≡_, refl}
 use native.Mathlib.Omega.{arith}
 use borrow.Author.Tests.{leb-false}
 use Rattle.entries.specs.Kinds.{kindOf}
@@ -33,7 +32,7 @@ use Rattle.book.specs.Fresh.{entriesMost}
 use Rattle.book.specs.Refusals.{entryRows, checkEntryOf, decidedOf, outcomeOf}
 use Rattle.book.specs.Serials.{lastOf, afterOf}
 use Rattle.book.specs.Chain.{slotOf, startOf}
-use Rattle.book.specs.Posting.{Result, accountAt, namedAt, lookupOf, rewritten, storedOf, bookAfter, decisionOf, postOf}
+use Rattle.book.specs.Posting.{accountAt, namedAt, lookupOf, rewritten, storedOf, bookAfter, decisionOf, postOf}
 use Rattle.book.specs.declared.Book.{Book}
 use Rattle.book.specs.declared.Serials.{Serials}
 use Rattle.book.proofs.Chain.{Inside, find-inside}

@@ -1,14 +1,10 @@
 -- An account's chain, and the search for a named entry along it.
-use Prim.Native.Nat.{ℕ, zero, suc, _-_, _<_}
-use mathlib.Core.Path.{_≡_, refl}
-use mathlib.Core.Bool.{Bool, true, false, cond, _||_}
+use Prim.Native.Nat.{ℕ, zero, suc, _-_}
+use mathlib.Core.Bool.{Bool, cond, _||_}
 use mathlib.Core.List.{List}
-use native.Mathlib.Numerals.{sub-one}
-use native.Mathlib.Omega.{arith}
 use lib.ListN.{getD}
 use lib.Dec.{eqb, ltb}
 use Rattle.entries.specs.Kinds.{namesOf}
-use Rattle.entries.specs.Ranges.{between}
 use Rattle.entries.specs.Entries.{noEntry, pointsAt}
 use Rattle.entries.specs.declared.raw.Raw.{Raw}
 use Rattle.entries.specs.declared.kinds.Kind.{Kind}

@@ -3,7 +3,7 @@ use Prim.Native.Nat.{ℕ, _+_}
 use mathlib.Core.List.{List}
 use lib.ListN.{getD, set}
 use Rattle.entries.specs.Kinds.{kindOf}
-use Rattle.entries.specs.Entries.{noEntry, entryOf, withOf}
+use Rattle.entries.specs.Entries.{entryOf, withOf}
 use Rattle.entries.specs.declared.raw.Raw.{Raw}
 use Rattle.entries.specs.declared.data.Entry.{Entry}
 use Rattle.rules.specs.Accounts.{noAccount, numberedOf}

@@ -1,6 +1,6 @@
 -- Refused, in checking order: 1 to 7 here, 8 to 16 in the rules' stateRows.
 use Prim.Native.Nat.{ℕ}
-use mathlib.Core.Bool.{Bool, not}
+use mathlib.Core.Bool.{not}
 use mathlib.Core.List.{List, [], _∷_}
 use lib.Dec.{leb, ltb}
 use Rattle.entries.specs.Kinds.{kindOf, sameOf}
@@ -18,7 +18,7 @@ use Rattle.rules.specs.Changes.{effectOf}
 use Rattle.rules.specs.declared.accounts.Account.{Account}
 use Rattle.rules.specs.declared.changes.Found.{Found}
 use Rattle.rules.specs.declared.changes.Outcome.{Outcome}
-use Rattle.rules.specs.declared.changes.Outcome.the-variants.{Refused, Accepted}
+use Rattle.rules.specs.declared.changes.Outcome.the-variants.{Refused}
 use Rattle.book.specs.Fresh.{accountsMost, entriesMost}
 
 -- 2099-12-31

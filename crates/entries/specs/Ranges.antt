@@ -1,6 +1,6 @@
 -- The ranges of the fields by kind (refusal 5).
 use Prim.Native.Nat.{ℕ}
-use mathlib.Core.Bool.{Bool, true, false, cond, _&&_, _||_}
+use mathlib.Core.Bool.{Bool, true, false, _&&_, _||_}
 use lib.Dec.{eqb, leb}
 use Rattle.entries.specs.declared.kinds.Limits.{Limits}
 use Rattle.entries.specs.declared.kinds.Kind.{Kind}

@@ -1,12 +1,12 @@
 -- The law of rounding, and what the code's remainder says of it.
-use Prim.Native.Nat.{ℕ, _+_, _-_, _*_, _/_, _%_, _<_, _≤_}
+use Prim.Native.Nat.{ℕ, _+_, _*_, _/_, _%_, _<_, _≤_}
 use mathlib.Core.Path.{_≡_, refl, ap, _∙_}
 use mathlib.Core.Bool.{Bool, true, false}
 use lib.Dec.{ltb}
 use borrow.Author.Tests.{ltb-true, ltb-false}
 use native.Mathlib.Nat.{le-div-iff-mul-le, div-lt-iff-lt-mul, add-mul, one-mul, mul-left-comm, div-add-mod', mod-lt, mul-le-mul-right, div-mul-le-self, lt-div-mul-add}
 use native.Mathlib.Omega.{arith}
-use Rattle.measures.specs.Rounding.{rounded, gap, Nearest, Rounds}
+use Rattle.measures.specs.Rounding.{rounded, gap, Rounds}
 
 pub above : {n : ℕ} → (n ≡ 0 → ⊥) → 0 < n
 above h = omega arith

@@ -3,7 +3,7 @@ use Prim.Native.Nat.{ℕ, _*_, _≤_, min}
 use mathlib.Core.Path.{_≡_, refl}
 use native.Mathlib.Nat.{mul-le-mul, min-eq-left}
 use native.Mathlib.Omega.{arith}
-use Rattle.measures.specs.Cents.{cents, most}
+use Rattle.measures.specs.Cents.{most}
 use Rattle.measures.specs.Rounding.{rounded}
 use Rattle.entries.specs.Ranges.{amountMost}
 use Rattle.rules.specs.Formulas.{billedOf, refundOf, interestOf, Plain}

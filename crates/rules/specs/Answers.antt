@@ -1,6 +1,5 @@
 -- What a posting answers, in document 01's numbers.
 use Prim.Native.Nat.{ℕ}
-use Rattle.measures.specs.Cents.{cents}
 use Rattle.measures.specs.declared.Cents.{Cents}
 use Rattle.entries.specs.Refusals.{refusalNumber}
 use Rattle.rules.specs.declared.answers.Amounts.{Amounts}

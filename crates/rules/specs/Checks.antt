@@ -1,6 +1,6 @@
 -- The refusals that the account and the named entry decide, in checking order: 8 to 16.
 use Prim.Native.Nat.{ℕ, _-_}
-use mathlib.Core.Bool.{Bool, true, false, cond, _&&_}
+use mathlib.Core.Bool.{Bool, false, cond, _&&_}
 use mathlib.Core.List.{List, [], _∷_}
 use lib.Dec.{eqb, leb, ltb}
 use Rattle.measures.specs.declared.Cents.{Cents}

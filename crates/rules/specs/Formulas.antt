@@ -1,5 +1,5 @@
 -- The formulas of kinds 2, 3 and 6: document 01's on plain numbers, and those of the code, whose products stop at 2^64 - 1.
-use Prim.Native.Nat.{ℕ, _+_, _*_, _/_, min, _≤_, _<_}
+use Prim.Native.Nat.{ℕ, _+_, _*_, _/_, min, _≤_}
 use mathlib.Core.Path.{_≡_}
 use Rattle.measures.specs.Cents.{cents, leastOf, timesOf, overOf, roundedOf}
 use Rattle.measures.specs.declared.Cents.{Cents}

@@ -9,23 +9,18 @@ use mir.Facts.{fits-natAbs, sfits-toZ, fits-ofZ}
 use borrow.Author.Needs.{needs}
 use Rattle.bench.proofs.positive.Statement.{statement}
 use Rattle.bench.proofs.positive.Tie as tie
-use Rattle.bench.proofs.positive.Reads as reads
-use Rattle.bench.proofs.positive.Lts as lts
 
 -- a number above 0 is no negative one
 above : (z : ℤ) → ltZ (pos 0) z ≡ true → T (nonNeg z)
 above (pos n) e = tt
 above (negsuc n) e = subst T (sym e) tt
 
--- src/main.rt:6:16
 cast-result : tie.Need-cast-result
 cast-result c = (above (toZ w64 (ofZ w64 (c .before .args .t))) (c .if1 .taken), fits-natAbs {w = w64} {w′ = w64} tt (sfits-toZ (fits-ofZ (c .before .fits .t))))
 
--- src/main.rt:5:1
 returns : tie.Need-returns
 returns c = search needs
 
--- src/main.rt:5:1
 returns-2 : tie.Need-returns-2
 returns-2 c = search needs
 

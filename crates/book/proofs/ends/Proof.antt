@@ -2,15 +2,11 @@ use borrow.Author.Tests.{eq-eqb, ne-eqb}
 use Rattle.book.specs.Chain.{endsOf}
 use Rattle.book.proofs.ends.Statement.{statement}
 use Rattle.book.proofs.ends.Tie as tie
-use Rattle.book.proofs.ends.Reads as reads
-use Rattle.book.proofs.ends.Lts as lts
 
--- src/lib.rt:72:9
 returns : tie.Need-returns
 unfolding endsOf
 returns c = simp (eq-eqb _ _ (c .if1 .taken))
 
--- src/lib.rt:68:1
 returns-2 : tie.Need-returns-2
 unfolding endsOf
 returns-2 c = simp (ne-eqb _ _ (c .if1 .left))

@@ -3,20 +3,14 @@ use Rattle.book.specs.Chain.{startOf}
 use borrow.Author.Needs.{needs}
 use Rattle.book.proofs.start.Statement.{statement}
 use Rattle.book.proofs.start.Tie as tie
-use Rattle.book.proofs.start.Reads as reads
-use Rattle.book.proofs.start.Lts as lts
-use Rattle.entries.proofs.kinds.Kind.names.Reads as names-reads
 
--- src/lib.rt:81:8
 names-requires : tie.Need-names-requires
 names-requires c κs = search needs
 
--- src/lib.rt:78:1
 returns : tie.Need-returns
 unfolding startOf
 returns c = simp (sym (c .before .names .ensures) ∙ c .if1 .taken)
 
--- src/lib.rt:78:1
 returns-2 : tie.Need-returns-2
 unfolding startOf
 returns-2 c = simp (sym (c .before .names .ensures) ∙ c .if1 .left)

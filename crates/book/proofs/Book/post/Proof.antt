@@ -1,38 +1,19 @@
 use Rattle.entries.specs.Entries.{withOf}
-use Rattle.book.specs.Posting.{namedAt}
-use Rattle.book.proofs.Chain.{link-inside}
-use Prim.Native.Nat.{ℕ, _<_, _≤_, _-_, _+_}
+use Rattle.book.specs.Posting.{namedAt, lookupOf, decisionOf}
+use Rattle.book.proofs.Chain.{link-inside, slot-inside, orElse, orElse-nothing, findIn-none, findIn-ends, findIn-hit, findIn-miss}
+use Prim.Native.Nat.{_<_, _≤_, _+_}
 use mathlib.Core.Path.{_≡_, refl, sym, ap, _∙_}
 use native.Mathlib.Nat.{min-eq-left}
 use native.Mathlib.Omega.{arith}
 use borrow.Author.Needs.{needs}
-use Rattle.entries.specs.Entries.{oneMore}
 use Rattle.rules.specs.Changes.{answerOf}
-use Rattle.rules.specs.declared.changes.Found.the-variants.{At, Nothing}
-use Rattle.rules.specs.declared.changes.Outcome.the-variants.{Refused, Accepted}
+use Rattle.rules.specs.declared.changes.Found.the-variants.{Nothing}
+use Rattle.rules.specs.declared.changes.Outcome.the-variants.{Accepted}
 use Rattle.book.specs.Fresh.{entriesMost}
 use Rattle.book.specs.Chain.{findIn, entryAt}
-use Rattle.book.specs.Posting.{accountAt, lookupOf, decisionOf, storedOf, postOf}
-use Rattle.book.proofs.Chain.{slot-inside, orElse, orElse-nothing, findIn-none, findIn-ends, findIn-hit, findIn-miss}
 use Rattle.book.proofs.Posting.{room, names-inside, post-refused, post-accepted}
 use Rattle.book.proofs.Book.post.Statement.{statement}
 use Rattle.book.proofs.Book.post.Tie as tie
-use Rattle.book.proofs.Book.post.Reads as reads
-use Rattle.book.proofs.Book.post.Lts as lts
-use Rattle.book.proofs.Serials.after.Reads as after-reads
-use Rattle.book.proofs.Serials.of.Reads as Serials-of-reads
-use Rattle.book.proofs.ends.Reads as ends-reads
-use Rattle.book.proofs.outcome.Reads as outcome-reads
-use Rattle.book.proofs.slot.Reads as slot-reads
-use Rattle.book.proofs.start.Reads as start-reads
-use Rattle.entries.proofs.data.Entry.unused.Reads as unused-reads
-use Rattle.entries.proofs.data.Entry.with.Reads as with-reads
-use Rattle.entries.proofs.one_more.Reads as one-more-reads
-use Rattle.entries.proofs.kinds.Kind.of.Reads as kinds-Kind-of-reads
-use Rattle.entries.proofs.raw.Raw.entry.Reads as entry-reads
-use Rattle.entries.proofs.raw.Raw.points_at.Reads as points-at-reads
-use Rattle.rules.proofs.accounts.Account.numbered.Reads as numbered-reads
-use Rattle.rules.proofs.changes.Outcome.answer.Reads as answer-reads
 
 abbrev Inv-loop : tie.InvT-loop
 Inv-loop raw self count last a account newest at₀ lookup₀ named₀ left₀ at lookup named left =
@@ -43,7 +24,6 @@ Inv-loop raw self count last a account newest at₀ lookup₀ named₀ left₀ a
 abbrev μ-loop : tie.MeasureT-loop
 μ-loop raw self count last a account newest at₀ lookup₀ named₀ left₀ at lookup named left = left
 
--- HELPERS
 -- after the walk: what was found is what there is to find
 walked : (c : tie.After-loop Inv-loop μ-loop) → c .before .loop .lookup ≡ lookupOf (c .before .before .before .before .before .before .before .before .args .t1) (c .before .before .before .before .before .before .before .before .args .raw)
 unfolding lookupOf
@@ -75,49 +55,37 @@ next-number c =
 linked : (c : tie.Else1 Inv-loop μ-loop) → (0 < c .before .before .before .loop .at) × (c .before .before .before .loop .at ≤ entriesMost)
 linked c = link-inside (c .before .before .before .loop .at) (sym (c .before .ends .ensures) ∙ c .if1 .left)
 
--- END HELPERS
-
--- src/lib.rt:138:13
 slot-requires : tie.Need-slot-requires Inv-loop μ-loop
 slot-requires c κs = search needs
 
--- src/lib.rt:139:23
 mul-account : tie.Need-mul-account Inv-loop μ-loop
 mul-account c = omega (arith, slot-inside (c .before .before .args .raw .account))
 
--- src/lib.rt:139:23
 element-copy-out-account : tie.Need-element-copy-out-account Inv-loop μ-loop
 element-copy-out-account c = omega (arith, slot-inside (c .before .before .args .raw .account))
 
--- src/lib.rt:141:28
 of-requires : tie.Need-of-requires Inv-loop μ-loop
 of-requires c κs = search needs
 
--- src/lib.rt:141:13
 start-requires : tie.Need-start-requires Inv-loop μ-loop
 start-requires c κs = search needs
 
--- src/lib.rt:143:13
 unused-requires : tie.Need-unused-requires Inv-loop μ-loop
 unused-requires c κs = search needs
 
 cast-left : tie.Need-cast-left Inv-loop μ-loop
 cast-left c = search needs
 
--- src/lib.rt:145:9
 loop-holds : tie.Need-loop-holds Inv-loop μ-loop
 unfolding entryAt
 loop-holds c = (λ z. refl, refl, c .unused .ensures)
 
--- src/lib.rt:146:16
 ends-requires : tie.Need-ends-requires Inv-loop μ-loop
 ends-requires c κs = search needs
 
--- src/lib.rt:145:9
 loop-less : tie.Need-loop-less Inv-loop μ-loop
 loop-less c = search needs
 
--- src/lib.rt:145:9
 loop-again : tie.Need-loop-again Inv-loop μ-loop
 loop-again c =
     let l = c .before .before .before .loop in
@@ -125,31 +93,24 @@ loop-again c =
     let here = findIn-ends (c .before .before .before .before .before .before .before .before .before .before .args .t1 .entries) (c .before .before .before .before .before .before .before .before .before .before .args .raw) (l .at) (c .before .before .loop-test .taken) (sym (c .before .ends .ensures) ∙ c .if1 .taken) in
     (λ z. absurd (omega arith), simp (none, findIn-none) (simp (none, here) at (l .inv .1)), l .inv .2)
 
--- src/lib.rt:149:25
 cast-i : tie.Need-cast-i Inv-loop μ-loop
 cast-i c = let h = linked c in omega arith
 
--- src/lib.rt:149:25
 sub-i : tie.Need-sub-i Inv-loop μ-loop
 sub-i c = let h = linked c in omega arith
 
--- src/lib.rt:150:29
 mul-entry : tie.Need-mul-entry Inv-loop μ-loop
 mul-entry c = let h = linked c in omega arith
 
--- src/lib.rt:150:29
 element-copy-out-entry : tie.Need-element-copy-out-entry Inv-loop μ-loop
 element-copy-out-entry c = let h = linked c in omega arith
 
--- src/lib.rt:151:20
 points-at-requires : tie.Need-points-at-requires Inv-loop μ-loop
 points-at-requires c κs = search needs
 
--- src/lib.rt:145:9
 loop-less-2 : tie.Need-loop-less-2 Inv-loop μ-loop
 loop-less-2 c = search needs
 
--- src/lib.rt:145:9
 loop-again-2 : tie.Need-loop-again-2 Inv-loop μ-loop
 unfolding entryAt
 loop-again-2 c =
@@ -158,15 +119,12 @@ loop-again-2 c =
     let here = findIn-hit (c .before .before .before .before .before .before .before .before .before .before .before .before .before .args .t1 .entries) (c .before .before .before .before .before .before .before .before .before .before .before .before .before .args .raw) (l .at) (c .before .before .before .before .before .loop-test .taken) (sym (c .before .before .before .before .ends .ensures) ∙ c .before .before .before .if1 .left) (sym (c .before .points-at .ensures) ∙ c .if2 .taken) in
     (λ z. absurd (omega arith), simp (none, here) at (l .inv .1), refl)
 
--- src/lib.rt:157:21
 sub-left : tie.Need-sub-left Inv-loop μ-loop
 sub-left c = search needs
 
--- src/lib.rt:145:9
 loop-less-3 : tie.Need-loop-less-3 Inv-loop μ-loop
 loop-less-3 c = search needs
 
--- src/lib.rt:145:9
 loop-again-3 : tie.Need-loop-again-3 Inv-loop μ-loop
 loop-again-3 c =
     let l = c .before .before .before .before .before .before .loop in
@@ -174,71 +132,54 @@ loop-again-3 c =
     let here = findIn-miss (c .before .before .before .before .before .before .before .before .before .before .before .before .before .args .t1 .entries) (c .before .before .before .before .before .before .before .before .before .before .before .before .before .args .raw) (l .at) (c .before .before .before .before .before .loop-test .taken) (sym (c .before .before .before .before .ends .ensures) ∙ c .before .before .before .if1 .left) (sym (c .before .points-at .ensures) ∙ c .if2 .left) in
     (λ z. none, simp none (simp (none, here) at (l .inv .1)), l .inv .2)
 
--- src/lib.rt:161:43
 of-requires-2 : tie.Need-of-requires-2 Inv-loop μ-loop
 of-requires-2 c κs = search needs
 
--- src/lib.rt:161:13
 outcome-requires : tie.Need-outcome-requires Inv-loop μ-loop
 outcome-requires c κs = search needs
 
--- src/lib.rt:162:13
 one-more-requires : tie.Need-one-more-requires Inv-loop μ-loop
 one-more-requires c κs = search needs
 
--- src/lib.rt:163:13
 answer-requires : tie.Need-answer-requires Inv-loop μ-loop
 answer-requires c κs = search needs
 
--- src/lib.rt:164:34
 enum-known-outcome : tie.Need-enum-known-outcome Inv-loop μ-loop
 enum-known-outcome c = search needs
 
--- src/lib.rt:165:23
 cast-end : tie.Need-cast-end Inv-loop μ-loop
 cast-end c = let h = not-full (c .before) in omega arith
 
--- src/lib.rt:169:33
 entry-requires : tie.Need-entry-requires Inv-loop μ-loop
 entry-requires c κs = search needs
 
--- src/lib.rt:169:13
 mul-t38 : tie.Need-mul-t38 Inv-loop μ-loop
 mul-t38 c = let h = not-full (c .before .before) in omega arith
 
--- src/lib.rt:169:13
 element-set-from-self : tie.Need-element-set-from-self Inv-loop μ-loop
 element-set-from-self c = let h = not-full (c .before .before) in omega arith
 
--- src/lib.rt:170:32
 numbered-requires : tie.Need-numbered-requires Inv-loop μ-loop
 numbered-requires c κs = search needs
 
--- src/lib.rt:170:13
 mul-t38-2 : tie.Need-mul-t38-2 Inv-loop μ-loop
 mul-t38-2 c = omega (arith, slot-inside (c .before .before .before .before .before .before .before .before .before .before .before .before .before .before .before .before .before .args .raw .account), c .before .before .before .before .before .before .before .before .before .before .before .before .before .before .before .slot .ensures)
 
--- src/lib.rt:170:13
 element-set-from-self-2 : tie.Need-element-set-from-self-2 Inv-loop μ-loop
 element-set-from-self-2 c = omega (arith, slot-inside (c .before .before .before .before .before .before .before .before .before .before .before .before .before .before .before .before .before .args .raw .account), c .before .before .before .before .before .before .before .before .before .before .before .before .before .before .before .slot .ensures)
 
--- src/lib.rt:172:25
 after-requires : tie.Need-after-requires Inv-loop μ-loop
 after-requires c κs = search needs
 
--- src/lib.rt:173:30
 enum-known-names : tie.Need-enum-known-names Inv-loop μ-loop
 enum-known-names c = search needs
 
--- src/lib.rt:174:35
 with-requires : tie.Need-with-requires Inv-loop μ-loop
 with-requires c κs = search needs
 
--- src/lib.rt:174:17
 mul-t46 : tie.Need-mul-t46 Inv-loop μ-loop
 mul-t46 c = let h = names-inside (c .before .before .before .before .before .before .before .before .before .before .before .before .before .before .before .before .before .before .before .before .before .before .args .t1) (c .before .before .before .before .before .before .before .before .before .before .before .before .before .before .before .before .before .before .before .before .before .before .args .raw) (c .before .before .before .before .before .before .before .before .outcome2 .given .0 .0) _ (accepted (c .before .before .before .before .before .before .before .before)) (c .before .before .names .given .1) in omega arith
 
--- src/lib.rt:174:17
 element-set-from-self-3 : tie.Need-element-set-from-self-3 Inv-loop μ-loop
 element-set-from-self-3 c = names-inside (c .before .before .before .before .before .before .before .before .before .before .before .before .before .before .before .before .before .before .before .before .before .before .args .t1) (c .before .before .before .before .before .before .before .before .before .before .before .before .before .before .before .before .before .before .before .before .before .before .args .raw) (c .before .before .before .before .before .before .before .before .outcome2 .given .0 .0) _ (accepted (c .before .before .before .before .before .before .before .before)) (c .before .before .names .given .1)
 
@@ -248,21 +189,18 @@ enum-told c = search needs
 enum-told-2 : tie.Need-enum-told-2 Inv-loop μ-loop
 enum-told-2 c = search needs
 
--- src/lib.rt:133:5
 returns : tie.Need-returns Inv-loop μ-loop
 returns c =
     post-accepted (c .before .before .before .before .before .before .before .before .before .before .before .before .before .before .before .before .before .before .before .before .before .before .args .t1) (c .before .before .before .before .before .before .before .before .before .before .before .before .before .before .before .before .before .before .before .before .before .before .args .raw) (c .before .before .before .before .before .before .before .before .outcome2 .given .0 .0) (c .before .before .before .before .before .before .before .before .before .before .before .before .outcome .result) _ _ _ _ _ _ _ _
     (decided (c .before .before .before .before .before .before .before .before .before .before .before .before)) (c .before .before .before .before .before .before .before .before .outcome2 .given .1) (c .before .before .before .before .before .before .before .before .before .before .before .before .before .before .before .before .before .before .before .before .slot .ensures) (next-number (c .before .before .before .before .before .before .before .before)) (c .before .before .before .before .before .numbered .ensures) (c .before .before .before .before .before .before .entry2 .ensures)
     (c .with .ensures ∙ ap (λ e. withOf e (c .before .before .before .before .before .before .before .before .outcome2 .given .0 .0 .named)) (found (c .before .before .before .before .before .before .before .before .before .before .before .before .before .before))) (rw (c .before .before .names .given .1) refl) (c .before .before .before .before .after .ensures) (c .before .before .before .before .before .before .before .before .before .before .answer .ensures)
 
--- src/lib.rt:133:5
 returns-2 : tie.Need-returns-2 Inv-loop μ-loop
 returns-2 c =
     post-accepted (c .before .before .before .before .before .before .before .before .before .before .before .before .before .before .before .before .before .before .before .before .args .t1) (c .before .before .before .before .before .before .before .before .before .before .before .before .before .before .before .before .before .before .before .before .args .raw) (c .before .before .before .before .before .before .outcome2 .given .0 .0) (c .before .before .before .before .before .before .before .before .before .before .outcome .result) _ _ _ _ _ _ _ _
     (decided (c .before .before .before .before .before .before .before .before .before .before)) (c .before .before .before .before .before .before .outcome2 .given .1) (c .before .before .before .before .before .before .before .before .before .before .before .before .before .before .before .before .before .before .slot .ensures) (next-number (c .before .before .before .before .before .before)) (c .before .before .before .numbered .ensures) (c .before .before .before .before .entry2 .ensures)
     refl (rw (c .enum-told .given .1) refl) (c .before .before .after .ensures) (c .before .before .before .before .before .before .before .before .answer .ensures)
 
--- src/lib.rt:133:5
 returns-3 : tie.Need-returns-3 Inv-loop μ-loop
 unfolding answerOf
 returns-3 c = rw (post-refused (c .before .before .before .before .before .before .before .before .before .before .before .before .before .before .args .t1) (c .before .before .before .before .before .before .before .before .before .before .before .before .before .before .args .raw) (c .enum-told2 .given .0 .0) (sym (decided (c .before .before .before .before)) ∙ c .enum-told2 .given .1))

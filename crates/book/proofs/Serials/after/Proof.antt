@@ -2,15 +2,11 @@ use borrow.Author.Tests.{eq-eqb, ne-eqb}
 use Rattle.book.specs.Serials.{afterOf}
 use Rattle.book.proofs.Serials.after.Statement.{statement}
 use Rattle.book.proofs.Serials.after.Tie as tie
-use Rattle.book.proofs.Serials.after.Reads as reads
-use Rattle.book.proofs.Serials.after.Lts as lts
 
--- src/lib.rt:39:5
 returns : tie.Need-returns
 unfolding afterOf
 returns c = simp (eq-eqb _ _ (c .if1 .taken))
 
--- src/lib.rt:39:5
 returns-2 : tie.Need-returns-2
 unfolding afterOf
 returns-2 c = simp (ne-eqb _ _ (c .if1 .left))

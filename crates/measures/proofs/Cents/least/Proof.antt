@@ -4,14 +4,10 @@ use native.Mathlib.Omega.{arith}
 use Rattle.measures.specs.Cents.{cents}
 use Rattle.measures.proofs.Cents.least.Statement.{statement}
 use Rattle.measures.proofs.Cents.least.Tie as tie
-use Rattle.measures.proofs.Cents.least.Reads as reads
-use Rattle.measures.proofs.Cents.least.Lts as lts
 
--- src/lib.rt:39:5
 returns : tie.Need-returns
 returns c = ap cents (sym (min-eq-right (omega arith)))
 
--- src/lib.rt:39:5
 returns-2 : tie.Need-returns-2
 returns-2 c = ap cents (sym (min-eq-left (omega arith)))
 

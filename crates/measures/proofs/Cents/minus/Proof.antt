@@ -5,14 +5,10 @@ use Rattle.measures.specs.Cents.{cents}
 use borrow.Author.Needs.{needs}
 use Rattle.measures.proofs.Cents.minus.Statement.{statement}
 use Rattle.measures.proofs.Cents.minus.Tie as tie
-use Rattle.measures.proofs.Cents.minus.Reads as reads
-use Rattle.measures.proofs.Cents.minus.Lts as lts
 
--- src/lib.rt:28:5
 returns : tie.Need-returns
 returns c = search needs
 
--- src/lib.rt:28:5
 returns-2 : tie.Need-returns-2
 returns-2 c = ap cents (sym (sub-eq-zero-of-le (omega arith)))
 

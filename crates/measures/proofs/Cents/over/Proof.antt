@@ -4,18 +4,13 @@ use Rattle.measures.specs.Cents.{cents}
 use borrow.Author.Needs.{needs}
 use Rattle.measures.proofs.Cents.over.Statement.{statement}
 use Rattle.measures.proofs.Cents.over.Tie as tie
-use Rattle.measures.proofs.Cents.over.Reads as reads
-use Rattle.measures.proofs.Cents.over.Lts as lts
 
--- src/lib.rt:66:19
 div-t5 : tie.Need-div-t5
 div-t5 c = search needs
 
--- src/lib.rt:60:5
 returns : tie.Need-returns
 returns c = rw (c .if1 .taken) (ap cents (sym (div-zero _)))
 
--- src/lib.rt:60:5
 returns-2 : tie.Need-returns-2
 returns-2 c = search needs
 

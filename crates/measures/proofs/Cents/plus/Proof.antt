@@ -5,22 +5,16 @@ use Rattle.measures.specs.Cents.{cents}
 use borrow.Author.Needs.{needs}
 use Rattle.measures.proofs.Cents.plus.Statement.{statement}
 use Rattle.measures.proofs.Cents.plus.Tie as tie
-use Rattle.measures.proofs.Cents.plus.Reads as reads
-use Rattle.measures.proofs.Cents.plus.Lts as lts
 
--- src/lib.rt:20:23
 sub-if1 : tie.Need-sub-if1
 sub-if1 c = search needs
 
--- src/lib.rt:21:19
 add-t6 : tie.Need-add-t6
 add-t6 c = search needs
 
--- src/lib.rt:17:5
 returns : tie.Need-returns
 returns c = ap cents (sym (min-eq-left (omega arith)))
 
--- src/lib.rt:17:5
 returns-2 : tie.Need-returns-2
 returns-2 c = ap cents (sym (min-eq-right (omega arith)))
 

@@ -8,27 +8,20 @@ use Rattle.measures.proofs.Rounding.{above, up, down}
 use borrow.Author.Needs.{needs}
 use Rattle.measures.proofs.Cents.rounded.Statement.{statement}
 use Rattle.measures.proofs.Cents.rounded.Tie as tie
-use Rattle.measures.proofs.Cents.rounded.Reads as reads
-use Rattle.measures.proofs.Cents.rounded.Lts as lts
 
--- src/lib.rt:75:13
 returns : tie.Need-returns
 unfolding rounded
 returns c = rw (c .if1 .taken) (ap cents (sym (div-zero _)))
 
--- src/lib.rt:77:21
 div-whole : tie.Need-div-whole
 div-whole c = search needs
 
--- src/lib.rt:78:20
 rem-rest : tie.Need-rem-rest
 rem-rest c = search needs
 
--- src/lib.rt:79:12
 sub-if2 : tie.Need-sub-if2
 sub-if2 c = omega (arith, mod-lt (c .before .before .before .args .self .0) (above (c .before .before .if1 .left)))
 
--- src/lib.rt:80:19
 add-t8 : tie.Need-add-t8
 add-t8 c = let a = c .before .before .before .before .args in
     let m = mod-lt (a .self .0) (above (c .before .before .before .if1 .left)) in
@@ -36,13 +29,11 @@ add-t8 c = let a = c .before .before .before .before .args in
     let l = le-mul-of-pos-right (a .self .0 / a .divisor) (above (c .before .before .before .if1 .left)) in
     omega arith
 
--- src/lib.rt:71:5
 returns-2 : tie.Need-returns-2
 returns-2 c = let a = c .before .before .before .before .args in
     let m = mod-lt (a .self .0) (above (c .before .before .before .if1 .left)) in
     ap cents (sym (up (a .self .0) (a .divisor) (above (c .before .before .before .if1 .left)) (omega arith)))
 
--- src/lib.rt:71:5
 returns-3 : tie.Need-returns-3
 returns-3 c = let a = c .before .before .before .before .args in
     let m = mod-lt (a .self .0) (above (c .before .before .before .if1 .left)) in

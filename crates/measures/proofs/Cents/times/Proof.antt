@@ -1,5 +1,5 @@
-use Prim.Native.Nat.{ℕ, _*_, _≤_, _<_, min}
-use mathlib.Core.Path.{_≡_, sym, ap, _∙_}
+use Prim.Native.Nat.{ℕ, _*_, _≤_, min}
+use mathlib.Core.Path.{sym, ap, _∙_}
 use native.Mathlib.Nat.{min-eq-left, min-eq-right, mul-zero, le-div-iff-mul-le, div-lt-iff-lt-mul, le-of-lt}
 use native.Mathlib.Omega.{arith}
 use Rattle.measures.specs.Cents.{cents, most}
@@ -7,26 +7,19 @@ use Rattle.measures.proofs.Rounding.{above}
 use borrow.Author.Needs.{needs}
 use Rattle.measures.proofs.Cents.times.Statement.{statement}
 use Rattle.measures.proofs.Cents.times.Tie as tie
-use Rattle.measures.proofs.Cents.times.Reads as reads
-use Rattle.measures.proofs.Cents.times.Lts as lts
 
--- src/lib.rt:50:13
 returns : tie.Need-returns
 returns c = ap cents (sym (ap (λ (k : ℕ). min (c .before .args .self .0 * k) most) (c .if1 .taken) ∙ ap (λ (k : ℕ). min k most) (mul-zero _)))
 
--- src/lib.rt:52:22
 div-if2 : tie.Need-div-if2
 div-if2 c = search needs
 
--- src/lib.rt:53:19
 mul-t6 : tie.Need-mul-t6
 mul-t6 c = let h : _ ≤ _ = le-div-iff-mul-le (above (c .before .before .before .if1 .left)) .0 (c .before .if2 .taken) in omega arith
 
--- src/lib.rt:46:5
 returns-2 : tie.Need-returns-2
 returns-2 c = ap cents (sym (min-eq-left (le-div-iff-mul-le (above (c .before .before .before .if1 .left)) .0 (c .before .if2 .taken))))
 
--- src/lib.rt:46:5
 returns-3 : tie.Need-returns-3
 returns-3 c = ap cents (sym (min-eq-right (le-of-lt (div-lt-iff-lt-mul (above (c .before .before .if1 .left)) .0 (c .if2 .left)))))
 

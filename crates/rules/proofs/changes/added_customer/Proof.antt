@@ -3,48 +3,32 @@ use Rattle.rules.specs.Changes.{addedCustomerOf}
 use borrow.Author.Needs.{needs}
 use Rattle.rules.proofs.changes.added_customer.Statement.{statement}
 use Rattle.rules.proofs.changes.added_customer.Tie as tie
-use Rattle.rules.proofs.changes.added_customer.Reads as reads
-use Rattle.rules.proofs.changes.added_customer.Lts as lts
-use Rattle.entries.proofs.data.Data.named.Reads as named-reads
-use Rattle.entries.proofs.data.Data.refunded.Reads as refunded-reads
-use Rattle.rules.proofs.accounts.Account.credited.Reads as credited-reads
-use Rattle.rules.proofs.answers.Amounts.of.Reads as of-reads
-use Rattle.rules.proofs.formulas.refund.Reads as refund-reads
 
--- src/changes.rt:90:19
 enum-known-lookup : tie.Need-enum-known-lookup
 enum-known-lookup c = search needs
 
--- src/changes.rt:91:33
 enum-told : tie.Need-enum-told
 enum-told c = search needs
 
--- src/changes.rt:91:9
 returns : tie.Need-returns
 unfolding addedCustomerOf
 returns c = rw (c .enum-told .given .1) refl
 
--- src/changes.rt:93:23
 named-requires : tie.Need-named-requires
 named-requires c κs = search needs
 
--- src/changes.rt:93:9
 refund-requires : tie.Need-refund-requires
 refund-requires c κs = search needs
 
--- src/changes.rt:94:9
 credited-requires : tie.Need-credited-requires
 credited-requires c κs = search needs
 
--- src/changes.rt:105:16
 refunded-requires : tie.Need-refunded-requires
 refunded-requires c κs = search needs
 
--- src/changes.rt:106:18
 of-requires : tie.Need-of-requires
 of-requires c κs = search needs
 
--- src/changes.rt:87:1
 returns-2 : tie.Need-returns-2
 unfolding addedCustomerOf
 returns-2 c = rw (c .before .before .before .before .before .before .before .lookup .given .1) (simp (c .of .ensures, c .before .refunded .ensures, c .before .before .before .credited .ensures, c .before .before .before .before .refund .ensures, c .before .before .before .before .before .named .ensures))

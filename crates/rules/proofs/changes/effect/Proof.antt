@@ -1,128 +1,92 @@
-use mathlib.Core.Path.{refl, ap}
+use mathlib.Core.Path.{refl}
 use Rattle.rules.specs.Changes.{effectOf}
 use borrow.Author.Needs.{needs}
 use Rattle.rules.proofs.changes.effect.Statement.{statement}
 use Rattle.rules.proofs.changes.effect.Tie as tie
-use Rattle.rules.proofs.changes.effect.Reads as reads
-use Rattle.rules.proofs.changes.effect.Lts as lts
-use Rattle.rules.proofs.changes.added_customer.Reads as added-customer-reads
-use Rattle.rules.proofs.changes.bill.Reads as bill-reads
-use Rattle.rules.proofs.changes.contribution.Reads as contribution-reads
-use Rattle.rules.proofs.changes.correction.Reads as correction-reads
-use Rattle.rules.proofs.changes.deposit.Reads as deposit-reads
-use Rattle.rules.proofs.changes.deposit_return.Reads as deposit-return-reads
-use Rattle.rules.proofs.changes.expiry.Reads as expiry-reads
-use Rattle.rules.proofs.changes.payment.Reads as payment-reads
 
--- src/changes.rt:221:43
 enum-told : tie.Need-enum-told
 enum-told c = search needs
 
--- src/changes.rt:222:49
 enum-told-2 : tie.Need-enum-told-2
 enum-told-2 c = search needs
 
--- src/changes.rt:222:49
 contribution-requires : tie.Need-contribution-requires
 contribution-requires c κs = search needs
 
--- src/changes.rt:223:32
 enum-told-3 : tie.Need-enum-told-3
 enum-told-3 c = search needs
 
--- src/changes.rt:223:32
 added-customer-requires : tie.Need-added-customer-requires
 added-customer-requires c κs = search needs
 
--- src/changes.rt:224:41
 enum-told-4 : tie.Need-enum-told-4
 enum-told-4 c = search needs
 
--- src/changes.rt:224:41
 bill-requires : tie.Need-bill-requires
 bill-requires c κs = search needs
 
--- src/changes.rt:225:44
 enum-told-5 : tie.Need-enum-told-5
 enum-told-5 c = search needs
 
--- src/changes.rt:225:44
 payment-requires : tie.Need-payment-requires
 payment-requires c κs = search needs
 
--- src/changes.rt:226:44
 enum-told-6 : tie.Need-enum-told-6
 enum-told-6 c = search needs
 
--- src/changes.rt:226:44
 deposit-requires : tie.Need-deposit-requires
 deposit-requires c κs = search needs
 
--- src/changes.rt:227:50
 enum-told-7 : tie.Need-enum-told-7
 enum-told-7 c = search needs
 
--- src/changes.rt:227:50
 deposit-return-requires : tie.Need-deposit-return-requires
 deposit-return-requires c κs = search needs
 
--- src/changes.rt:228:25
 enum-told-8 : tie.Need-enum-told-8
 enum-told-8 c = search needs
 
--- src/changes.rt:228:25
 expiry-requires : tie.Need-expiry-requires
 expiry-requires c κs = search needs
 
--- src/changes.rt:229:29
 enum-told-9 : tie.Need-enum-told-9
 enum-told-9 c = search needs
 
--- src/changes.rt:229:29
 correction-requires : tie.Need-correction-requires
 correction-requires c κs = search needs
 
--- src/changes.rt:217:1
 returns : tie.Need-returns
 unfolding effectOf
 returns c = rw (c .enum-told .given .1) refl
 
--- src/changes.rt:217:1
 returns-2 : tie.Need-returns-2
 unfolding effectOf
 returns-2 c = rw (c .before .enum-told2 .given .1) (simp (c .contribution .ensures))
 
--- src/changes.rt:217:1
 returns-3 : tie.Need-returns-3
 unfolding effectOf
 returns-3 c = rw (c .before .enum-told3 .given .1) (simp (c .added-customer .ensures))
 
--- src/changes.rt:217:1
 returns-4 : tie.Need-returns-4
 unfolding effectOf
 returns-4 c = rw (c .before .enum-told4 .given .1) (simp (c .bill .ensures))
 
--- src/changes.rt:217:1
 returns-5 : tie.Need-returns-5
 unfolding effectOf
 returns-5 c = rw (c .before .enum-told5 .given .1) (simp (c .payment .ensures))
 
--- src/changes.rt:217:1
 returns-6 : tie.Need-returns-6
 unfolding effectOf
 returns-6 c = rw (c .before .enum-told6 .given .1) (simp (c .deposit .ensures))
 
--- src/changes.rt:217:1
 returns-7 : tie.Need-returns-7
 unfolding effectOf
 returns-7 c = rw (c .before .enum-told7 .given .1) (simp (c .deposit-return .ensures))
 
--- src/changes.rt:217:1
 returns-8 : tie.Need-returns-8
 unfolding effectOf
 returns-8 c = rw (c .before .enum-told8 .given .1) (simp (c .expiry .ensures))
 
--- src/changes.rt:217:1
 returns-9 : tie.Need-returns-9
 unfolding effectOf
 returns-9 c = rw (c .before .enum-told9 .given .1) (simp (c .correction .ensures))

@@ -2,78 +2,58 @@ use mathlib.Core.Path.{refl}
 use borrow.Author.Needs.{needs}
 use Rattle.rules.proofs.checks.deposit_clash.Statement.{statement}
 use Rattle.rules.proofs.checks.deposit_clash.Tie as tie
-use Rattle.rules.proofs.checks.deposit_clash.Reads as reads
-use Rattle.rules.proofs.checks.deposit_clash.Lts as lts
 
--- src/checks.rt:16:26
 enum-told : tie.Need-enum-told
 enum-told c = search needs
 
--- src/checks.rt:17:31
 enum-told-2 : tie.Need-enum-told-2
 enum-told-2 c = search needs
 
--- src/checks.rt:18:32
 enum-told-3 : tie.Need-enum-told-3
 enum-told-3 c = search needs
 
--- src/checks.rt:19:23
 enum-told-4 : tie.Need-enum-told-4
 enum-told-4 c = search needs
 
--- src/checks.rt:20:26
 enum-told-5 : tie.Need-enum-told-5
 enum-told-5 c = search needs
 
--- src/checks.rt:21:26
 enum-told-6 : tie.Need-enum-told-6
 enum-told-6 c = search needs
 
--- src/checks.rt:22:32
 enum-told-7 : tie.Need-enum-told-7
 enum-told-7 c = search needs
 
--- src/checks.rt:23:25
 enum-told-8 : tie.Need-enum-told-8
 enum-told-8 c = search needs
 
--- src/checks.rt:24:29
 enum-told-9 : tie.Need-enum-told-9
 enum-told-9 c = search needs
 
--- src/checks.rt:12:1
 returns : tie.Need-returns
 returns c = search needs
 
--- src/checks.rt:12:1
 returns-2 : tie.Need-returns-2
 returns-2 c = search needs
 
--- src/checks.rt:12:1
 returns-3 : tie.Need-returns-3
 returns-3 c = search needs
 
--- src/checks.rt:12:1
 returns-4 : tie.Need-returns-4
 returns-4 c = search needs
 
--- src/checks.rt:12:1
 returns-5 : tie.Need-returns-5
 returns-5 c = search needs
 
--- src/checks.rt:12:1
 returns-6 : tie.Need-returns-6
 returns-6 c = rw (c .before .enum-told6 .given .1) refl
 
--- src/checks.rt:12:1
 returns-7 : tie.Need-returns-7
 returns-7 c = rw (c .before .enum-told7 .given .1) refl
 
--- src/checks.rt:12:1
 returns-8 : tie.Need-returns-8
 returns-8 c = search needs
 
--- src/checks.rt:12:1
 returns-9 : tie.Need-returns-9
 returns-9 c = search needs
 

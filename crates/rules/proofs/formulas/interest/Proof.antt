@@ -2,24 +2,16 @@ use Rattle.rules.specs.Formulas.{interestOf}
 use borrow.Author.Needs.{needs}
 use Rattle.rules.proofs.formulas.interest.Statement.{statement}
 use Rattle.rules.proofs.formulas.interest.Tie as tie
-use Rattle.rules.proofs.formulas.interest.Reads as reads
-use Rattle.rules.proofs.formulas.interest.Lts as lts
-use Rattle.measures.proofs.Cents.rounded.Reads as rounded-reads
-use Rattle.measures.proofs.Cents.times.Reads as times-reads
 
--- src/formulas.rt:28:5
 times-requires : tie.Need-times-requires
 times-requires c κs = search needs
 
--- src/formulas.rt:28:5
 times-requires-2 : tie.Need-times-requires-2
 times-requires-2 c κs = search needs
 
--- src/formulas.rt:28:5
 rounded-requires : tie.Need-rounded-requires
 rounded-requires c κs = search needs
 
--- src/formulas.rt:25:1
 returns : tie.Need-returns
 unfolding interestOf
 returns c = simp (c .rounded .ensures, c .before .times2 .ensures, c .before .before .times .ensures)

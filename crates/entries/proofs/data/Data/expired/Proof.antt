@@ -2,7 +2,6 @@ use mathlib.Core.Path.{_≡_, refl}
 use mathlib.Core.List.{[], _∷_}
 use types.Run.{OneOf, miss}
 use denote.Enum.Declared.{tagOf}
-use Rattle.measures.specs.declared.Cents.{Cents}
 use Rattle.entries.proofs.data.Data.{the-type}
 use Rattle.entries.specs.Entries.{expiredOf}
 use Rattle.entries.specs.declared.data.Data.{Data}
@@ -10,10 +9,7 @@ use Rattle.entries.specs.declared.data.Data.the-variants.{Unused, Contri
 use borrow.Author.Needs.{needs}
 use Rattle.entries.proofs.data.Data.expired.Statement.{statement}
 use Rattle.entries.proofs.data.Data.expired.Tie as tie
-use Rattle.entries.proofs.data.Data.expired.Reads as reads
-use Rattle.entries.proofs.data.Data.expired.Lts as lts
 
--- HELPERS
 -- every other kind is as it was
 other : (d : Data) → OneOf (0 ∷ 2 ∷ 3 ∷ 4 ∷ 5 ∷ 6 ∷ 7 ∷ 8 ∷ []) (tagOf the-type d) → d ≡ expiredOf d
 unfolding expiredOf
@@ -27,18 +23,13 @@ other DepositReturn o = refl
 other (Expiry a b) o = refl
 other (Correction a b c) o = refl
 
--- END HELPERS
-
--- src/data.rt:204:17
 enum-known-self : tie.Need-enum-known-self
 enum-known-self c = search needs
 
--- src/data.rt:199:5
 returns : tie.Need-returns
 unfolding expiredOf
 returns c = rw (c .before .self .given .1) refl
 
--- src/data.rt:199:5
 returns-2 : tie.Need-returns-2
 unfolding expiredOf
 returns-2 c = other _ (c .match .keys2)

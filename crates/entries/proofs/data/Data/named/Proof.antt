@@ -3,120 +3,90 @@ use mathlib.Core.Path.{refl}
 use borrow.Author.Needs.{needs}
 use Rattle.entries.proofs.data.Data.named.Statement.{statement}
 use Rattle.entries.proofs.data.Data.named.Tie as tie
-use Rattle.entries.proofs.data.Data.named.Reads as reads
-use Rattle.entries.proofs.data.Data.named.Lts as lts
-use Rattle.entries.proofs.data.Named.other.Reads as other-reads
-use Rattle.entries.proofs.data.Named.sum.Reads as sum-reads
 
--- src/data.rt:127:17
 enum-known-self : tie.Need-enum-known-self
 enum-known-self c = search needs
 
--- src/data.rt:151:17
 enum-known-self-2 : tie.Need-enum-known-self-2
 enum-known-self-2 c = search needs
 
--- src/data.rt:153:18
 sum-requires : tie.Need-sum-requires
 sum-requires c κs = search needs
 
--- src/data.rt:156:17
 enum-known-self-3 : tie.Need-enum-known-self-3
 enum-known-self-3 c = search needs
 
--- src/data.rt:158:18
 sum-requires-2 : tie.Need-sum-requires-2
 sum-requires-2 c κs = search needs
 
--- src/data.rt:159:56
 enum-told : tie.Need-enum-told
 enum-told c = search needs
 
--- src/data.rt:159:43
 other-requires : tie.Need-other-requires
 other-requires c κs = search needs
 
--- src/data.rt:160:50
 enum-told-2 : tie.Need-enum-told-2
 enum-told-2 c = search needs
 
--- src/data.rt:160:37
 other-requires-2 : tie.Need-other-requires-2
 other-requires-2 c κs = search needs
 
--- src/data.rt:161:49
 enum-told-3 : tie.Need-enum-told-3
 enum-told-3 c = search needs
 
--- src/data.rt:161:36
 other-requires-3 : tie.Need-other-requires-3
 other-requires-3 c κs = search needs
 
--- src/data.rt:162:49
 enum-told-4 : tie.Need-enum-told-4
 enum-told-4 c = search needs
 
--- src/data.rt:162:36
 other-requires-4 : tie.Need-other-requires-4
 other-requires-4 c κs = search needs
 
--- src/data.rt:163:53
 enum-told-5 : tie.Need-enum-told-5
 enum-told-5 c = search needs
 
--- src/data.rt:163:40
 other-requires-5 : tie.Need-other-requires-5
 other-requires-5 c κs = search needs
 
--- src/data.rt:164:42
 enum-told-6 : tie.Need-enum-told-6
 enum-told-6 c = search needs
 
--- src/data.rt:164:29
 other-requires-6 : tie.Need-other-requires-6
 other-requires-6 c κs = search needs
 
--- src/data.rt:122:5
 returns : tie.Need-returns
 unfolding namedOf
 returns c = rw (c .before .self .given .1) refl
 
--- src/data.rt:122:5
 returns-2 : tie.Need-returns-2
 unfolding namedOf
 returns-2 c = rw (c .before .before .self2 .given .1) (c .sum .ensures)
 
--- src/data.rt:122:5
 returns-3 : tie.Need-returns-3
 unfolding namedOf
 returns-3 c = rw (c .before .before .self3 .given .1) (c .sum2 .ensures)
 
--- src/data.rt:122:5
 returns-4 : tie.Need-returns-4
 unfolding namedOf
 returns-4 c = rw (c .before .enum-told .given .1) (c .other .ensures)
 
--- src/data.rt:122:5
 returns-5 : tie.Need-returns-5
 unfolding namedOf
 returns-5 c = rw (c .before .enum-told2 .given .1) (c .other2 .ensures)
 
--- src/data.rt:122:5
 returns-6 : tie.Need-returns-6
 unfolding namedOf
 returns-6 c = rw (c .before .enum-told3 .given .1) (c .other3 .ensures)
 
--- src/data.rt:122:5
 returns-7 : tie.Need-returns-7
 unfolding namedOf
 returns-7 c = rw (c .before .enum-told4 .given .1) (c .other4 .ensures)
 
--- src/data.rt:122:5
 returns-8 : tie.Need-returns-8
 unfolding namedOf
 returns-8 c = rw (c .before .enum-told5 .given .1) (c .other5 .ensures)
 
--- src/data.rt:122:5
 returns-9 : tie.Need-returns-9
 unfolding namedOf
 returns-9 c = rw (c .before .enum-told6 .given .1) (c .other6 .ensures)

@@ -10,13 +10,7 @@ use Rattle.entries.specs.declared.data.Data.the-variants.{Unused, Contri
 use borrow.Author.Needs.{needs}
 use Rattle.entries.proofs.data.Data.refunded.Statement.{statement}
 use Rattle.entries.proofs.data.Data.refunded.Tie as tie
-use Rattle.entries.proofs.data.Data.refunded.Reads as reads
-use Rattle.entries.proofs.data.Data.refunded.Lts as lts
-use Rattle.entries.proofs.data.one_more.Reads as one-more-reads
-use Rattle.measures.proofs.Cents.minus.Reads as minus-reads
-use Rattle.measures.proofs.Cents.plus.Reads as plus-reads
 
--- HELPERS
 -- every other kind is as it was
 other : (d : Data) (x y z : Cents) → OneOf (0 ∷ 2 ∷ 3 ∷ 4 ∷ 5 ∷ 6 ∷ 7 ∷ 8 ∷ []) (tagOf the-type d) → d ≡ refundedOf d x y z
 unfolding refundedOf
@@ -30,34 +24,25 @@ other DepositReturn x y z o = refl
 other (Expiry a b) x y z o = refl
 other (Correction a b c) x y z o = refl
 
--- END HELPERS
-
--- src/data.rt:174:17
 enum-known-self : tie.Need-enum-known-self
 enum-known-self c = search needs
 
--- src/data.rt:187:23
 minus-requires : tie.Need-minus-requires
 minus-requires c κs = search needs
 
--- src/data.rt:188:29
 plus-requires : tie.Need-plus-requires
 plus-requires c κs = search needs
 
--- src/data.rt:189:27
 plus-requires-2 : tie.Need-plus-requires-2
 plus-requires-2 c κs = search needs
 
--- src/data.rt:191:24
 one-more-requires : tie.Need-one-more-requires
 one-more-requires c κs = search needs
 
--- src/data.rt:169:5
 returns : tie.Need-returns
 unfolding refundedOf
 returns c = rw (c .before .before .before .before .before .self .given .1) (simp (c .one-more .ensures, c .before .plus2 .ensures, c .before .before .plus .ensures, c .before .before .before .minus .ensures))
 
--- src/data.rt:169:5
 returns-2 : tie.Need-returns-2
 unfolding refundedOf
 returns-2 c = other _ _ _ _ (c .match .keys2)

@@ -10,10 +10,7 @@ use Rattle.entries.specs.declared.data.Data.the-variants.{Unused, Contri
 use borrow.Author.Needs.{needs}
 use Rattle.entries.proofs.data.Data.restated.Statement.{statement}
 use Rattle.entries.proofs.data.Data.restated.Tie as tie
-use Rattle.entries.proofs.data.Data.restated.Reads as reads
-use Rattle.entries.proofs.data.Data.restated.Lts as lts
 
--- HELPERS
 -- every other kind is as it was
 other : (d : Data) (x : Cents) → OneOf (0 ∷ 1 ∷ 2 ∷ 5 ∷ 6 ∷ 7 ∷ 8 ∷ []) (tagOf the-type d) → d ≡ restatedOf d x
 unfolding restatedOf
@@ -27,27 +24,20 @@ other DepositReturn x o = refl
 other (Expiry a b) x o = refl
 other (Correction a b c) x o = refl
 
--- END HELPERS
-
--- src/data.rt:234:17
 enum-known-self : tie.Need-enum-known-self
 enum-known-self c = search needs
 
--- src/data.rt:247:25
 enum-known-self-2 : tie.Need-enum-known-self-2
 enum-known-self-2 c = search needs
 
--- src/data.rt:229:5
 returns : tie.Need-returns
 unfolding restatedOf
 returns c = rw (c .before .self .given .1) refl
 
--- src/data.rt:229:5
 returns-2 : tie.Need-returns-2
 unfolding restatedOf
 returns-2 c = rw (c .before .self2 .given .1) refl
 
--- src/data.rt:229:5
 returns-3 : tie.Need-returns-3
 unfolding restatedOf
 returns-3 c = other _ _ (c .match .keys3)

@@ -2,123 +2,93 @@ use Rattle.entries.specs.Ranges.{limitsOf}
 use borrow.Author.Needs.{needs}
 use Rattle.entries.proofs.kinds.Kind.limits.Statement.{statement}
 use Rattle.entries.proofs.kinds.Kind.limits.Tie as tie
-use Rattle.entries.proofs.kinds.Kind.limits.Reads as reads
-use Rattle.entries.proofs.kinds.Kind.limits.Lts as lts
-use Rattle.entries.proofs.kinds.Limits.row.Reads as row-reads
 
--- src/kinds.rt:142:35
 enum-told : tie.Need-enum-told
 enum-told c = search needs
 
--- src/kinds.rt:142:35
 row-requires : tie.Need-row-requires
 row-requires c κs = search needs
 
--- src/kinds.rt:143:36
 enum-told-2 : tie.Need-enum-told-2
 enum-told-2 c = search needs
 
--- src/kinds.rt:143:36
 row-requires-2 : tie.Need-row-requires-2
 row-requires-2 c κs = search needs
 
--- src/kinds.rt:144:27
 enum-told-3 : tie.Need-enum-told-3
 enum-told-3 c = search needs
 
--- src/kinds.rt:144:27
 row-requires-3 : tie.Need-row-requires-3
 row-requires-3 c κs = search needs
 
--- src/kinds.rt:145:30
 enum-told-4 : tie.Need-enum-told-4
 enum-told-4 c = search needs
 
--- src/kinds.rt:145:30
 row-requires-4 : tie.Need-row-requires-4
 row-requires-4 c κs = search needs
 
--- src/kinds.rt:146:30
 enum-told-5 : tie.Need-enum-told-5
 enum-told-5 c = search needs
 
--- src/kinds.rt:146:30
 row-requires-5 : tie.Need-row-requires-5
 row-requires-5 c κs = search needs
 
--- src/kinds.rt:147:36
 enum-told-6 : tie.Need-enum-told-6
 enum-told-6 c = search needs
 
--- src/kinds.rt:147:36
 row-requires-6 : tie.Need-row-requires-6
 row-requires-6 c κs = search needs
 
--- src/kinds.rt:148:29
 enum-told-7 : tie.Need-enum-told-7
 enum-told-7 c = search needs
 
--- src/kinds.rt:148:29
 row-requires-7 : tie.Need-row-requires-7
 row-requires-7 c κs = search needs
 
--- src/kinds.rt:149:33
 enum-told-8 : tie.Need-enum-told-8
 enum-told-8 c = search needs
 
--- src/kinds.rt:149:33
 row-requires-8 : tie.Need-row-requires-8
 row-requires-8 c κs = search needs
 
--- src/kinds.rt:150:30
 enum-told-9 : tie.Need-enum-told-9
 enum-told-9 c = search needs
 
--- src/kinds.rt:150:30
 row-requires-9 : tie.Need-row-requires-9
 row-requires-9 c κs = search needs
 
--- src/kinds.rt:138:5
 returns : tie.Need-returns
 unfolding limitsOf
 returns c = rw (c .before .enum-told .given .1) (c .row .ensures)
 
--- src/kinds.rt:138:5
 returns-2 : tie.Need-returns-2
 unfolding limitsOf
 returns-2 c = rw (c .before .enum-told2 .given .1) (c .row2 .ensures)
 
--- src/kinds.rt:138:5
 returns-3 : tie.Need-returns-3
 unfolding limitsOf
 returns-3 c = rw (c .before .enum-told3 .given .1) (c .row3 .ensures)
 
--- src/kinds.rt:138:5
 returns-4 : tie.Need-returns-4
 unfolding limitsOf
 returns-4 c = rw (c .before .enum-told4 .given .1) (c .row4 .ensures)
 
--- src/kinds.rt:138:5
 returns-5 : tie.Need-returns-5
 unfolding limitsOf
 returns-5 c = rw (c .before .enum-told5 .given .1) (c .row5 .ensures)
 
--- src/kinds.rt:138:5
 returns-6 : tie.Need-returns-6
 unfolding limitsOf
 returns-6 c = rw (c .before .enum-told6 .given .1) (c .row6 .ensures)
 
--- src/kinds.rt:138:5
 returns-7 : tie.Need-returns-7
 unfolding limitsOf
 returns-7 c = rw (c .before .enum-told7 .given .1) (c .row7 .ensures)
 
--- src/kinds.rt:138:5
 returns-8 : tie.Need-returns-8
 unfolding limitsOf
 returns-8 c = rw (c .before .enum-told8 .given .1) (c .row8 .ensures)
 
--- src/kinds.rt:138:5
 returns-9 : tie.Need-returns-9
 unfolding limitsOf
 returns-9 c = rw (c .before .enum-told9 .given .1) (c .row9 .ensures)

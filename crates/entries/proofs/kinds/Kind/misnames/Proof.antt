@@ -4,108 +4,81 @@ use mathlib.Core.Bool.{not}
 use borrow.Author.Needs.{needs}
 use Rattle.entries.proofs.kinds.Kind.misnames.Statement.{statement}
 use Rattle.entries.proofs.kinds.Kind.misnames.Tie as tie
-use Rattle.entries.proofs.kinds.Kind.misnames.Reads as reads
-use Rattle.entries.proofs.kinds.Kind.misnames.Lts as lts
-use Rattle.entries.proofs.kinds.Kind.is.Reads as is-reads
-use Rattle.entries.proofs.kinds.either.Reads as either-reads
 
--- src/kinds.rt:125:30
 enum-told : tie.Need-enum-told
 enum-told c = search needs
 
--- src/kinds.rt:126:35
 enum-told-2 : tie.Need-enum-told-2
 enum-told-2 c = search needs
 
--- src/kinds.rt:127:46
 enum-told-3 : tie.Need-enum-told-3
 enum-told-3 c = search needs
 
--- src/kinds.rt:127:37
 is-requires : tie.Need-is-requires
 is-requires c κs = search needs
 
--- src/kinds.rt:128:27
 enum-told-4 : tie.Need-enum-told-4
 enum-told-4 c = search needs
 
--- src/kinds.rt:129:30
 enum-told-5 : tie.Need-enum-told-5
 enum-told-5 c = search needs
 
--- src/kinds.rt:130:30
 enum-told-6 : tie.Need-enum-told-6
 enum-told-6 c = search needs
 
--- src/kinds.rt:131:36
 enum-told-7 : tie.Need-enum-told-7
 enum-told-7 c = search needs
 
--- src/kinds.rt:132:39
 enum-told-8 : tie.Need-enum-told-8
 enum-told-8 c = search needs
 
--- src/kinds.rt:132:30
 is-requires-2 : tie.Need-is-requires-2
 is-requires-2 c κs = search needs
 
--- src/kinds.rt:133:50
 enum-told-9 : tie.Need-enum-told-9
 enum-told-9 c = search needs
 
--- src/kinds.rt:133:41
 is-requires-3 : tie.Need-is-requires-3
 is-requires-3 c κs = search needs
 
--- src/kinds.rt:133:63
 is-requires-4 : tie.Need-is-requires-4
 is-requires-4 c κs = search needs
 
--- src/kinds.rt:133:34
 either-requires : tie.Need-either-requires
 either-requires c κs = search needs
 
--- src/kinds.rt:121:5
 returns : tie.Need-returns
 unfolding misnamesOf
 returns c = search needs
 
--- src/kinds.rt:121:5
 returns-2 : tie.Need-returns-2
 unfolding misnamesOf
 returns-2 c = search needs
 
--- src/kinds.rt:121:5
 returns-3 : tie.Need-returns-3
 unfolding misnamesOf
 returns-3 c = rw (c .before .enum-told3 .given .1) (ap not (c .is .ensures))
 
--- src/kinds.rt:121:5
 returns-4 : tie.Need-returns-4
 unfolding misnamesOf
 returns-4 c = search needs
 
--- src/kinds.rt:121:5
 returns-5 : tie.Need-returns-5
 unfolding misnamesOf
 returns-5 c = search needs
 
--- src/kinds.rt:121:5
 returns-6 : tie.Need-returns-6
 unfolding misnamesOf
 returns-6 c = search needs
 
--- src/kinds.rt:121:5
 returns-7 : tie.Need-returns-7
 unfolding misnamesOf
 returns-7 c = search needs
 
--- src/kinds.rt:121:5
 returns-8 : tie.Need-returns-8
 unfolding misnamesOf
 returns-8 c = rw (c .before .enum-told8 .given .1) (ap not (c .is2 .ensures))
 
--- src/kinds.rt:121:5
 returns-9 : tie.Need-returns-9
 unfolding misnamesOf
 returns-9 c = rw (c .before .before .before .enum-told9 .given .1) (simp (c .either .ensures, c .before .is4 .ensures, c .before .before .is3 .ensures))

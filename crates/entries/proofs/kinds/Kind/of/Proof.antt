@@ -1,17 +1,13 @@
-use Rattle.entries.specs.Kinds.{kindOf}
+use Rattle.entries.specs.Kinds.{kindOf, kinds}
 use Prim.Native.Nat.{ℕ, zero, suc, _+_, _≤_}
 use mathlib.Core.Path.{_≡_, refl, sym}
 use native.Mathlib.Omega.{arith}
 use lib.ListN.{getD, List·getD-eq-default}
-use Rattle.entries.specs.Kinds.{kinds}
 use Rattle.entries.specs.declared.kinds.Kind.the-variants.{Unknown}
 use borrow.Author.Needs.{needs}
 use Rattle.entries.proofs.kinds.Kind.of.Statement.{statement}
 use Rattle.entries.proofs.kinds.Kind.of.Tie as tie
-use Rattle.entries.proofs.kinds.Kind.of.Reads as reads
-use Rattle.entries.proofs.kinds.Kind.of.Lts as lts
 
--- HELPERS
 climb : {n k : ℕ} → (n ≡ k → ⊥) → k ≤ n → k + 1 ≤ n
 climb ne l = omega arith
 
@@ -21,49 +17,38 @@ unfolding kindOf
 past zero h = refl
 past (suc m) h = sym (List·getD-eq-default kinds Unknown (h (omega arith)))
 
--- END HELPERS
-
--- src/kinds.rt:65:5
 returns : tie.Need-returns
 unfolding kindOf
 returns c = search needs
 
--- src/kinds.rt:65:5
 returns-2 : tie.Need-returns-2
 unfolding kindOf
 returns-2 c = search needs
 
--- src/kinds.rt:65:5
 returns-3 : tie.Need-returns-3
 unfolding kindOf
 returns-3 c = search needs
 
--- src/kinds.rt:65:5
 returns-4 : tie.Need-returns-4
 unfolding kindOf
 returns-4 c = search needs
 
--- src/kinds.rt:65:5
 returns-5 : tie.Need-returns-5
 unfolding kindOf
 returns-5 c = search needs
 
--- src/kinds.rt:65:5
 returns-6 : tie.Need-returns-6
 unfolding kindOf
 returns-6 c = search needs
 
--- src/kinds.rt:65:5
 returns-7 : tie.Need-returns-7
 unfolding kindOf
 returns-7 c = search needs
 
--- src/kinds.rt:65:5
 returns-8 : tie.Need-returns-8
 unfolding kindOf
 returns-8 c = search needs
 
--- src/kinds.rt:65:5
 returns-9 : tie.Need-returns-9
 unfolding kindOf
 returns-9 c = let r = c .match .rest in

@@ -2,10 +2,7 @@ use borrow.Author.Needs.{needs}
 use Rattle.entries.specs.Entries.{entryOf}
 use Rattle.entries.proofs.raw.Raw.entry.Statement.{statement}
 use Rattle.entries.proofs.raw.Raw.entry.Tie as tie
-use Rattle.entries.proofs.raw.Raw.entry.Reads as reads
-use Rattle.entries.proofs.raw.Raw.entry.Lts as lts
 
--- src/raw.rt:80:5
 returns : tie.Need-returns
 unfolding entryOf
 returns c = search needs

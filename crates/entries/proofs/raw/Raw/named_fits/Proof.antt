@@ -2,33 +2,23 @@ use Rattle.entries.specs.Ranges.{namedFits}
 use borrow.Author.Needs.{needs}
 use Rattle.entries.proofs.raw.Raw.named_fits.Statement.{statement}
 use Rattle.entries.proofs.raw.Raw.named_fits.Tie as tie
-use Rattle.entries.proofs.raw.Raw.named_fits.Reads as reads
-use Rattle.entries.proofs.raw.Raw.named_fits.Lts as lts
-use Rattle.entries.proofs.kinds.both.Reads as both-reads
-use Rattle.entries.proofs.raw.within.Reads as within-reads
 
--- src/raw.rt:43:25
 cast-within : tie.Need-cast-within
 cast-within c = search needs
 
--- src/raw.rt:43:18
 within-requires : tie.Need-within-requires
 within-requires c κs = search needs
 
--- src/raw.rt:43:13
 both-requires : tie.Need-both-requires
 both-requires c κs = search needs
 
--- src/raw.rt:45:13
 both-requires-2 : tie.Need-both-requires-2
 both-requires-2 c κs = search needs
 
--- src/raw.rt:39:5
 returns : tie.Need-returns
 unfolding namedFits
 returns c = simp (c .both .ensures, c .before .before .within .ensures, c .before .before .before .before .if1 .taken)
 
--- src/raw.rt:39:5
 returns-2 : tie.Need-returns-2
 unfolding namedFits
 returns-2 c = simp (c .both2 .ensures, c .before .before .before .if1 .left)

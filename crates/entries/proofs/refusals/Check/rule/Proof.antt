@@ -6,22 +6,15 @@ use Rattle.entries.specs.declared.refusals.Check.the-variants.{Refused}
 use borrow.Author.Needs.{needs}
 use Rattle.entries.proofs.refusals.Check.rule.Statement.{statement}
 use Rattle.entries.proofs.refusals.Check.rule.Tie as tie
-use Rattle.entries.proofs.refusals.Check.rule.Reads as reads
-use Rattle.entries.proofs.refusals.Check.rule.Lts as lts
 
--- HELPERS
 kept : (m : Refusal) (broken : Bool) (n : Refusal) → Refused m ≡ ruleOf (Refused m) broken n
 unfolding ruleOf
 kept m true n = refl
 kept m false n = refl
 
--- END HELPERS
-
--- src/refusals.rt:63:16
 enum-told : tie.Need-enum-told
 enum-told c = search needs
 
--- src/refusals.rt:64:17
 returns : tie.Need-returns
 unfolding ruleOf
 returns c = simp (c .before .enum-told .given .1, c .if1 .taken)
@@ -29,12 +22,10 @@ returns c = simp (c .before .enum-told .given .1, c .if1 .taken)
 enum-told-2 : tie.Need-enum-told-2
 enum-told-2 c = search needs
 
--- src/refusals.rt:59:5
 returns-2 : tie.Need-returns-2
 unfolding ruleOf
 returns-2 c = simp (c .if1 .left)
 
--- src/refusals.rt:59:5
 returns-3 : tie.Need-returns-3
 unfolding ruleOf
 returns-3 c = rw (c .enum-told2 .given .1) (kept _ (c .before .before .args .broken) (c .before .before .args .refusal))

@@ -2,29 +2,19 @@ use Rattle.rules.specs.Accounts.{chargedOf}
 use borrow.Author.Needs.{needs}
 use Rattle.rules.proofs.accounts.Account.charged.Statement.{statement}
 use Rattle.rules.proofs.accounts.Account.charged.Tie as tie
-use Rattle.rules.proofs.accounts.Account.charged.Reads as reads
-use Rattle.rules.proofs.accounts.Account.charged.Lts as lts
-use Rattle.measures.proofs.Cents.least.Reads as least-reads
-use Rattle.measures.proofs.Cents.minus.Reads as minus-reads
-use Rattle.measures.proofs.Cents.plus.Reads as plus-reads
 
--- src/accounts.rt:84:13
 least-requires : tie.Need-least-requires
 least-requires c κs = search needs
 
--- src/accounts.rt:85:41
 minus-requires : tie.Need-minus-requires
 minus-requires c κs = search needs
 
--- src/accounts.rt:85:13
 plus-requires : tie.Need-plus-requires
 plus-requires c κs = search needs
 
--- src/accounts.rt:86:13
 minus-requires-2 : tie.Need-minus-requires-2
 minus-requires-2 c κs = search needs
 
--- src/accounts.rt:81:5
 returns : tie.Need-returns
 unfolding chargedOf
 returns c = simp (c .before .before .minus2 .ensures, c .before .before .before .plus .ensures, c .before .before .before .before .minus .ensures, c .before .before .before .before .before .least .ensures)

@@ -2,10 +2,7 @@ use mathlib.Core.Path.{refl}
 use Rattle.rules.specs.Accounts.{holdingOf}
 use Rattle.rules.proofs.accounts.Account.holding.Statement.{statement}
 use Rattle.rules.proofs.accounts.Account.holding.Tie as tie
-use Rattle.rules.proofs.accounts.Account.holding.Reads as reads
-use Rattle.rules.proofs.accounts.Account.holding.Lts as lts
 
--- src/accounts.rt:99:5
 returns : tie.Need-returns
 unfolding holdingOf
 returns c = refl

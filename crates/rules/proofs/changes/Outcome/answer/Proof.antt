@@ -3,23 +3,17 @@ use Rattle.rules.specs.Changes.{answerOf}
 use borrow.Author.Needs.{needs}
 use Rattle.rules.proofs.changes.Outcome.answer.Statement.{statement}
 use Rattle.rules.proofs.changes.Outcome.answer.Tie as tie
-use Rattle.rules.proofs.changes.Outcome.answer.Reads as reads
-use Rattle.rules.proofs.changes.Outcome.answer.Lts as lts
 
--- src/changes.rt:52:30
 enum-known-self : tie.Need-enum-known-self
 enum-known-self c = search needs
 
--- src/changes.rt:53:31
 enum-known-self-2 : tie.Need-enum-known-self-2
 enum-known-self-2 c = search needs
 
--- src/changes.rt:48:5
 returns : tie.Need-returns
 unfolding answerOf
 returns c = rw (c .before .self .given .1) refl
 
--- src/changes.rt:48:5
 returns-2 : tie.Need-returns-2
 unfolding answerOf
 returns-2 c = rw (c .before .before .self2 .given .1) refl
