@@ -1,10 +1,14 @@
 -- The formulas of kinds 2, 3 and 6: document 01's on plain numbers, and those of the code, whose products stop at 2^64 - 1.
-use Prim.Native.Nat.{ℕ, _+_, _*_, _/_, min, _≤_}
+use Prim.Native.Nat.{ℕ, _+_, _-_, _*_, _/_, min, _≤_}
 use mathlib.Core.Path.{_≡_}
+use mathlib.Core.Bool.{true}
 use Rattle.measures.specs.Cents.{cents, leastOf, timesOf, overOf, roundedOf}
 use Rattle.measures.specs.declared.Cents.{Cents}
 use Rattle.measures.specs.declared.Metres.{Metres}
-use Rattle.entries.specs.Ranges.{amountMost}
+use Rattle.entries.specs.Ranges.{amountMost, inRangeOf}
+use Rattle.entries.specs.Entries.{metres}
+use Rattle.entries.specs.declared.raw.Raw.{Raw}
+use Rattle.entries.specs.declared.kinds.Kind.the-variants as kind
 use Rattle.entries.specs.declared.data.Named.{Named}
 
 -- 3: billed = floor((2 × charge × served + period) / (2 × period))
@@ -30,9 +34,19 @@ refundOf n shared =
 unfoldable pub interestOf : Cents → ℕ → ℕ → Cents
 interestOf deposit rate days = roundedOf (timesOf (timesOf deposit rate) days) 3650000
 
--- For every entry that refusals 1 to 5 let through, the code's formulas are document 01's.
+-- Within these limits no product reaches 2^64 - 1, and the code's formulas are document 01's.
 pub record Plain : Type 0 where
   pub bill : (charge served period : ℕ) → charge ≤ amountMost → served ≤ 255 → billedOf (cents charge) served period ≡ cents (billed charge served period)
   pub added-customer : (n : Named) (shared : Metres) → n .amount .0 ≤ amountMost → shared .0 ≤ 65535 →
       refundOf n shared ≡ cents (refund (n .held .0) (n .amount .0) (shared .0) (n .built .0) (n .added))
   pub deposit-return : (deposit rate days : ℕ) → deposit ≤ amountMost → rate ≤ 2000 → days ≤ 36524 → interestOf (cents deposit) rate days ≡ cents (interest deposit rate days)
+
+-- So they are for every entry that refusals 1 to 5 let through: a bill; a customer added to a contribution; the return of a deposit.
+pub record PlainEntries : Type 0 where
+  pub bill : (r : Raw) → inRangeOf r kind.Bill ≡ true →
+      billedOf (cents (r .amount)) (r .b) (r .a) ≡ cents (billed (r .amount) (r .b) (r .a))
+  pub added-customer : (contribution r : Raw) (n : Named) → inRangeOf contribution kind.Contribution ≡ true → inRangeOf r kind.AddedCustomer ≡ true →
+      n .amount ≡ cents (contribution .amount) →
+      refundOf n (metres (r .a)) ≡ cents (refund (n .held .0) (contribution .amount) (r .a) (n .built .0) (n .added))
+  pub deposit-return : (deposit r : Raw) → inRangeOf deposit kind.Deposit ≡ true → r .day ≤ 36524 →
+      interestOf (cents (deposit .amount)) (deposit .a) (r .day - deposit .day) ≡ cents (interest (deposit .amount) (deposit .a) (r .day - deposit .day))
