@@ -82,17 +82,7 @@ impl Named {
     fn other(kind: Kind) -> Named
         ensures { λ r. ⌜ r ≡ otherOf kind ⌝ }
     {
-        Named {
-            kind,
-            amount: Cents(0),
-            built: Metres(0),
-            phases: 0,
-            held: Cents(0),
-            added: 0,
-            closed: false,
-            standing: Cents(0),
-            corrected: false,
-        }
+        Named::sum(kind, Cents(0), false)
     }
 
     // Of a bill or a payment.

@@ -37,95 +37,50 @@ impl Account {
     }
 
     // To credit an amount: arrears fall by the smaller of the two; the rest is left over.
-    pub fn credited(self, amount: Cents) -> Credited
+    pub fn credited(mut self, amount: Cents) -> Credited
         ensures { λ r. ⌜ r ≡ creditedOf self amount ⌝ }
     {
         let settled = amount.least(self.arrears);
         let left = amount.minus(settled);
-        let arrears = self.arrears.minus(settled);
-        let credit = self.credit;
-        let deposit = self.deposit;
-        let deposited = self.deposited;
+        self.arrears = self.arrears.minus(settled);
         Credited {
-            account: Account {
-                arrears,
-                credit,
-                deposit,
-                rate: self.rate,
-                deposited,
-                newest: self.newest,
-            },
+            account: self,
             settled,
             left,
         }
     }
 
     // What is left over is added to credit.
-    pub fn kept(self, left: Cents) -> Account
+    pub fn kept(mut self, left: Cents) -> Account
         ensures { λ r. ⌜ r ≡ keptOf self left ⌝ }
     {
-        let arrears = self.arrears;
-        let credit = self.credit.plus(left);
-        let deposit = self.deposit;
-        let deposited = self.deposited;
-        Account {
-            arrears,
-            credit,
-            deposit,
-            rate: self.rate,
-            deposited,
-            newest: self.newest,
-        }
+        self.credit = self.credit.plus(left);
+        self
     }
 
     // To charge an amount: credit falls by the smaller of the two; the rest is added to arrears.
-    pub fn charged(self, amount: Cents) -> Account
+    pub fn charged(mut self, amount: Cents) -> Account
         ensures { λ r. ⌜ r ≡ chargedOf self amount ⌝ }
     {
         let covered = amount.least(self.credit);
-        let arrears = self.arrears.plus(amount.minus(covered));
-        let credit = self.credit.minus(covered);
-        let deposit = self.deposit;
-        let deposited = self.deposited;
-        Account {
-            arrears,
-            credit,
-            deposit,
-            rate: self.rate,
-            deposited,
-            newest: self.newest,
-        }
+        self.arrears = self.arrears.plus(amount.minus(covered));
+        self.credit = self.credit.minus(covered);
+        self
     }
 
-    pub fn holding(self, deposit: Cents, rate: u64, deposited: Day) -> Account
+    pub fn holding(mut self, deposit: Cents, rate: u64, deposited: Day) -> Account
         ensures { λ r. ⌜ r ≡ holdingOf self deposit rate deposited ⌝ }
     {
-        let arrears = self.arrears;
-        let credit = self.credit;
-        Account {
-            arrears,
-            credit,
-            deposit,
-            rate,
-            deposited,
-            newest: self.newest,
-        }
+        self.deposit = deposit;
+        self.rate = rate;
+        self.deposited = deposited;
+        self
     }
 
-    pub fn numbered(self, newest: u16) -> Account
+    pub fn numbered(mut self, newest: u16) -> Account
         ensures { λ r. ⌜ r ≡ numberedOf self newest ⌝ }
     {
-        let arrears = self.arrears;
-        let credit = self.credit;
-        let deposit = self.deposit;
-        let deposited = self.deposited;
-        Account {
-            arrears,
-            credit,
-            deposit,
-            rate: self.rate,
-            deposited,
-            newest,
-        }
+        self.newest = newest;
+        self
     }
 }

@@ -17,7 +17,7 @@ minus-requires-2 c κs = search needs
 
 returns : tie.Need-returns
 unfolding chargedOf
-returns c = simp (c .before .before .minus2 .ensures, c .before .before .before .plus .ensures, c .before .before .before .before .minus .ensures, c .before .before .before .before .before .least .ensures)
+returns c = simp (c .minus2 .ensures, c .before .plus .ensures, c .before .before .minus .ensures, c .before .before .before .least .ensures)
 
 pub charged-spec : {M : Type 1} → statement M
 charged-spec =

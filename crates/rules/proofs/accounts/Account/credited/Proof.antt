@@ -14,7 +14,7 @@ minus-requires-2 c κs = search needs
 
 returns : tie.Need-returns
 unfolding creditedOf
-returns c = simp (c .before .before .before .minus2 .ensures, c .before .before .before .before .minus .ensures, c .before .before .before .before .before .least .ensures)
+returns c = simp (c .minus2 .ensures, c .before .minus .ensures, c .before .before .least .ensures)
 
 pub credited-spec : {M : Type 1} → statement M
 credited-spec = tie.close (tie.spec least-requires minus-requires minus-requires-2 returns)

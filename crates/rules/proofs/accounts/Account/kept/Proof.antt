@@ -8,7 +8,7 @@ plus-requires c κs = search needs
 
 returns : tie.Need-returns
 unfolding keptOf
-returns c = simp (c .before .before .plus .ensures)
+returns c = simp (c .plus .ensures)
 
 pub kept-spec : {M : Type 1} → statement M
 kept-spec = tie.close (tie.spec plus-requires returns)
