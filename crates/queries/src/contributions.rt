@@ -131,7 +131,7 @@ pub fn contribution_query(book: Book, account: u16, node: u8, serial: u32) -> Co
     let own = book.accounts[a];
     let mut at = own.newest;
     let mut sought = Entry::unused();
-    let mut left: u16 = 1024;
+    let mut left = Book::ENTRIES;
     while 0 < left {
         if ends(at) {
             left = 0;

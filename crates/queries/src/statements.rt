@@ -148,6 +148,8 @@ impl Sums {
         let credit = account.credit;
         let deposit = account.deposit;
         let held = self.held;
+        let links_read = self.links_read;
+        let complete = self.length as u64 <= allowance;
         let bills = self.bills;
         let payments = self.payments;
         StatementFigures {
@@ -155,10 +157,10 @@ impl Sums {
             credit,
             deposit,
             held,
-            links_read: self.links_read,
+            links_read,
             bills,
             payments,
-            complete: self.length as u64 <= allowance,
+            complete,
         }
     }
 }
@@ -174,7 +176,7 @@ pub fn statement(book: Book, account: u16, allowance: u64) -> StatementAnswer
     let own = book.accounts[a];
     let mut at = own.newest;
     let mut sums = Sums::none();
-    let mut left: u16 = 1024;
+    let mut left = Book::ENTRIES;
     while 0 < left {
         if ends(at) {
             left = 0;

@@ -5,9 +5,9 @@ use Rattle.queries.proofs.statements.Sums.figures.Tie as tie
 use Rattle.queries.proofs.statements.Sums.figures.Reads as reads
 use Rattle.queries.proofs.statements.Sums.figures.Lts as lts
 
--- src/statements.rt:161:23
-cast-t10 : tie.Need-cast-t10
-cast-t10 c = search needs
+-- src/statements.rt:152:24
+cast-complete : tie.Need-cast-complete
+cast-complete c = search needs
 
 -- src/statements.rt:144:5
 returns : tie.Need-returns
@@ -15,4 +15,4 @@ unfolding figuresOf
 returns c = search needs
 
 pub figures-spec : {M : Type 1} → statement M
-figures-spec = tie.close (tie.spec cast-t10 returns)
+figures-spec = tie.close (tie.spec cast-complete returns)
