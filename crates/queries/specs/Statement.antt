@@ -1,0 +1,77 @@
+-- The statement of an account, in document 01's numbers.
+use Prim.Native.Nat.{ℕ, min}
+use mathlib.Core.Bool.{Bool, false, not}
+use mathlib.Core.List.{List, [], _∷_}
+use lib.ListN.{length, take}
+use lib.Dec.{leb}
+use Rattle.measures.specs.Cents.{most}
+use Rattle.entries.specs.Ranges.{between}
+use Rattle.entries.specs.Refusals.{refusalNumber, Row, _⇒_, firstOf}
+use Rattle.entries.specs.declared.kinds.Kind.the-variants as kind
+use Rattle.entries.specs.declared.data.Entry.{Entry}
+use Rattle.entries.specs.declared.refusals.Refusal.the-variants as no
+use Rattle.entries.specs.declared.refusals.Check.{Check}
+use Rattle.entries.specs.declared.refusals.Check.the-variants as check
+use Rattle.rules.specs.declared.accounts.Account.{Account}
+use Rattle.book.specs.Fresh.{accountsMost}
+use Rattle.book.specs.Posting.{accountAt}
+use Rattle.book.specs.declared.Book.{Book}
+use Rattle.queries.specs.Chain.{chainAt, totalOf, heldOf, standingOf}
+use Rattle.queries.specs.declared.statements.StatementAnswer.{StatementAnswer}
+use Rattle.queries.specs.declared.statements.StatementAnswer.the-variants.{Refused, Given}
+use Rattle.queries.specs.declared.statements.StatementReply.{StatementReply}
+
+abbrev pub reply : ℕ → ℕ → ℕ → ℕ → ℕ → ℕ → ℕ → ℕ → Bool → StatementReply
+reply refusal arrears credit deposit held links bills payments complete =
+    record {
+      refusal = refusal;
+      arrears = arrears;
+      credit = credit;
+      deposit = deposit;
+      held = held;
+      «links_read» = links;
+      bills = bills;
+      payments = payments;
+      complete = complete;
+    }
+
+-- refused: the number and otherwise zeros; given: the figures
+unfoldable pub statementReplyOf : StatementAnswer → StatementReply
+statementReplyOf (Refused n) = reply (refusalNumber n) 0 0 0 0 0 0 0 false
+statementReplyOf (Given f) =
+    reply 0
+    (f .arrears .0)
+    (f .credit .0)
+    (f .deposit .0)
+    (f .held .0)
+    (f .«links_read»)
+    (f .bills .0)
+    (f .payments .0)
+    (f .complete)
+
+-- The account's arrears, credit and deposit held, and held summed over its contributions; links read, and the sums of
+-- standing bills and standing payments among the entries read; complete exactly when the length is at most the allowance.
+-- A sum stops at 2^64 - 1.
+unfoldable pub givenOf : Account → List Entry → ℕ → StatementReply
+givenOf acc chain allowance =
+    reply 0
+    (acc .arrears .0)
+    (acc .credit .0)
+    (acc .deposit .0)
+    (min (totalOf heldOf chain) most)
+    (min allowance (length chain))
+    (min (totalOf (standingOf kind.Bill) (take allowance chain)) most)
+    (min (totalOf (standingOf kind.Payment) (take allowance chain)) most)
+    (leb (length chain) allowance)
+
+abbrev pub statementRows : ℕ → List Row
+statementRows account = (not (between account 1 accountsMost) ⇒ no.UnknownAccount) ∷ []
+
+-- a statement that a check refuses, or the figures
+unfoldable pub decidedOf : Check → StatementReply → StatementReply
+decidedOf (check.Refused n) given = statementReplyOf (Refused n)
+decidedOf check.Passed given = given
+
+unfoldable pub statementOf : Book → ℕ → ℕ → StatementReply
+statementOf b account allowance =
+    decidedOf (firstOf check.Passed (statementRows account)) (givenOf (accountAt b account) (chainAt b account) allowance)
