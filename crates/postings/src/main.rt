@@ -1,77 +1,9 @@
 // Posts the entries of a table and prints each answer: the refusal, the entry's number, and the four amounts.
-// The table is text: rows of twelve numbers, and comments from '#' to the end of the line.
 use book::Book;
 use book::Posted;
 use entries::Raw;
 use rules::Reply;
-
-// A number of the text, and where the text goes on.
-struct Parsed {
-    value: u32,
-    next: usize,
-}
-
-struct Row {
-    fields: [u32; 12],
-    next: usize,
-}
-
-fn is_digit(byte: u8) -> bool {
-    if 48 <= byte { byte <= 57 } else { false }
-}
-
-// Where the next number begins, or the text's length.
-fn start_of_number(text: &[u8], from: usize) -> usize {
-    let mut at = from;
-    let mut comment = false;
-    while at < text.len() {
-        let byte = text[at];
-        if byte == 35 {
-            comment = true;
-        } else if byte == 10 {
-            comment = false;
-        } else if !comment {
-            if is_digit(byte) {
-                return at;
-            }
-        }
-        at += 1;
-    }
-    text.len()
-}
-
-fn number(text: &[u8], from: usize) -> Parsed {
-    let mut at = from;
-    let mut value: u64 = 0;
-    while at < text.len() {
-        let byte = text[at];
-        if !is_digit(byte) {
-            return Parsed {
-                value: (value % 4294967296) as u32,
-                next: at,
-            };
-        }
-        value = (value * 10 + (byte % 16) as u64) % 4294967296;
-        at += 1;
-    }
-    Parsed {
-        value: (value % 4294967296) as u32,
-        next: at,
-    }
-}
-
-fn read_row(text: &[u8], from: usize) -> Row {
-    let mut fields = [0u32; 12];
-    let mut next = from;
-    let mut i: usize = 0;
-    while i < 12 {
-        let n = number(text, start_of_number(text, next));
-        fields[i] = n.value;
-        next = n.next;
-        i += 1;
-    }
-    Row { fields, next }
-}
+use tables::{read_row, start_of_number};
 
 fn above(serial: u32, n: u32) -> u32 {
     ((serial as u64 + n as u64) % 4294967296) as u32
@@ -127,7 +59,7 @@ fn run(text: &[u8]) {
     let mut left = text.len();
     while 0 < left {
         if at < text.len() {
-            let r = read_row(text, at);
+            let r = read_row(text, at, 12);
             let fields = r.fields;
             if fields[0] == 1 {
                 book = Book::fresh();
