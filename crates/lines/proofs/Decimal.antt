@@ -1,14 +1,13 @@
 -- Laws of decimal numbers: the fewest digits are the digits without leading zeros, and they read as the number.
 use Prim.Native.Nat.{ℕ, zero, suc, _+_, _*_, _-_, _/_, _%_, _^_, _≤_, _<_}
-use mathlib.Core.Path.{_≡_, refl, sym, ap, _∙_}
-use mathlib.Core.Bool.{Bool, true, false, cond}
+use mathlib.Core.Path.{_≡_, refl, ap}
+use mathlib.Core.Bool.{Bool, true, false}
 use mathlib.Core.List.{List, [], _∷_, _++_}
 use native.Mathlib.Nat.{mod-lt, pow-zero, pow-suc, pow-le-pow-right, div-add-mod', div-lt-self, div-eq-of-lt, div-lt-iff-lt-mul, le-div-iff-mul-le}
 use native.Mathlib.Omega.{arith}
 use lib.Dec.{ltb, leb}
 use borrow.Author.Tests.{ltb-true, ltb-false, lt-ltb, le-ltb, leb-true, leb-false}
 use Rattle.io.specs.Digits.{glyph, Fewest}
-use Rattle.io.specs.Digits.{digits as lastDigits}
 use Rattle.lines.specs.Decimal.{digitsIn, digits, valueAfter, ReadBack}
 
 -- 10 ^ k is above k

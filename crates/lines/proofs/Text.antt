@@ -8,6 +8,7 @@ use native.Mathlib.Numerals.{add-one}
 use native.Mathlib.Omega.{arith}
 use lib.ListN.{length, take, drop, getD, set, length-append, length-take, length-drop, length-set}
 use lib.Seq.{take-at, take-length, take-suc-set, length-take-le, drop-cons, drop-length}
+use lib.Dec.{leb}
 use borrow.Author.Tests.{le-leb, lt-leb}
 use borrow.Rule.Slice.PartMut.{putMid}
 use Rattle.lines.specs.Decimal.{digits}
@@ -64,3 +65,12 @@ pub written : (line buf out : List ℕ) (n : ℕ) → length line ≤ length buf
     out ≡ take (length line) line ++ drop (length line) buf → (n ≡ lengthAfter line buf) × (out ≡ bufferAfter line buf)
 unfolding lengthAfter bufferAfter
 written line buf out n h e q = rw (le-leb _ _ h) (e, q ∙ ap (λ l. l ++ drop (length line) buf) (take-length line))
+
+-- a line's length is within the buffer
+pub within : (line buf out : List ℕ) (n : ℕ) → n ≡ lengthAfter line buf → out ≡ bufferAfter line buf → n ≤ length out
+unfolding lengthAfter bufferAfter
+within line buf out n en eo = rw (en, eo) (go (leb (length line) (length buf)))
+  where
+    go : (t : Bool) → cond t (length line) 0 ≤ length (cond t (line ++ drop (length line) buf) buf)
+    go true = rw length-append (omega arith)
+    go false = omega arith

@@ -3,7 +3,8 @@ use book::Book;
 use book::Posted;
 use entries::Raw;
 use rules::Reply;
-use tables::{read_row, start_of_number};
+use tables::read_row;
+use tables::start_of_number;
 
 fn above(serial: u32, n: u32) -> u32 {
     ((serial as u64 + n as u64) % 4294967296) as u32

@@ -70,4 +70,3 @@ pub fn read_row(text: &[u8], from: usize, width: usize) -> Row {
     }
     Row { fields, next }
 }
-

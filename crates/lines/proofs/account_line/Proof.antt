@@ -1,4 +1,4 @@
-use Prim.Native.Nat.{ℕ, _≤_}
+use Prim.Native.Nat.{_≤_}
 use mathlib.Core.Path.{_≡_, _∙_}
 use native.Mathlib.Omega.{arith}
 use lib.ListN.{take}
@@ -7,45 +7,31 @@ use Rattle.lines.proofs.Decimal.{decimal, at-most-twenty}
 use borrow.Author.Needs.{needs}
 use Rattle.lines.proofs.account_line.Statement.{statement}
 use Rattle.lines.proofs.account_line.Tie as tie
-use Rattle.lines.proofs.account_line.Reads as reads
-use Rattle.lines.proofs.account_line.Lts as lts
-use Rattle.io.proofs.decimal.Reads as decimal-reads
-use Rattle.lines.proofs.line.Reads as line-reads
 
--- HELPERS
 few : (c : tie.After-decimal) → c .decimal .result ≤ 20
 few c = at-most-twenty (c .before .before .before .args .account) (c .decimal .result) (c .decimal .ensures .1 .0) (omega arith)
 
 shown : (c : tie.After-decimal) → take (c .decimal .result) (c .decimal .last .1 .0) ≡ digits (c .before .before .before .args .account)
 shown c = c .decimal .ensures .1 .1 ∙ decimal _ _ (c .decimal .ensures .1 .0)
 
--- END HELPERS
-
--- src/lib.rt:60:9
 decimal-requires : tie.Need-decimal-requires
 decimal-requires c κs = search needs
 
--- src/lib.rt:62:15
 array-share-prefix-shown : tie.Need-array-share-prefix-shown
 array-share-prefix-shown c = search needs
 
--- src/lib.rt:62:15
 slice-aggregate-line : tie.Need-slice-aggregate-line
 slice-aggregate-line c = search needs
 
--- src/lib.rt:62:28
 slice-aggregate-line-2 : tie.Need-slice-aggregate-line-2
 slice-aggregate-line-2 c = search needs
 
--- src/lib.rt:62:5
 line-requires : tie.Need-line-requires
 line-requires c κs = omega (arith, few (c .before .before .before), c .before .before .before .decimal .ensures .0 .1)
 
--- src/lib.rt:48:1
 same-length : tie.Need-same-length
 same-length c = search needs
 
--- src/lib.rt:48:1
 returns : tie.Need-returns
 returns c = rw (shown (c .before .before .before .before .before .before)) at (c .before .before .line .ensures)
 

@@ -1,21 +1,14 @@
 use Rattle.lines.proofs.Text.{front, next-number, finished, length-finished, too-short, written}
 use lib.ListN.{length, take, drop, set, length-set}
-use lib.Seq.{take-at, take-length, length-take-le}
-use Rattle.lines.proofs.Text.{next-number, finished, length-finished, too-short, written}
-use Prim.Native.Nat.{ℕ, _+_, _*_, _-_, _≤_, _<_}
+use lib.Seq.{length-take-le}
+use Prim.Native.Nat.{_+_, _*_, _-_, _≤_, _<_}
 use mathlib.Core.Path.{_≡_, refl, sym, ap, _∙_}
-use mathlib.Core.List.{List, _∷_, _++_}
+use mathlib.Core.List.{_++_}
 use native.Mathlib.Omega.{arith}
 use borrow.Author.Needs.{needs}
-use lib.ListN.{length, take, drop, length-set}
 use Rattle.lines.specs.Lines.{numbersOf, lineOf}
-use Rattle.lines.proofs.Text.{next-number, finished, too-short, written}
 use Rattle.lines.proofs.line.Statement.{statement}
 use Rattle.lines.proofs.line.Tie as tie
-use Rattle.lines.proofs.line.Reads as reads
-use Rattle.lines.proofs.line.Lts as lts
-use Rattle.bytes.proofs.copy.Reads as copy-reads
-use Rattle.lines.proofs.number.Reads as number-reads
 
 abbrev Inv-loop : tie.InvT-loop
 Inv-loop buf word numbers text₀ at₀ i₀ text at i = (i ≤ length numbers) × (length text ≡ 128) × (at ≤ length word + 21 * i) ×
@@ -24,7 +17,6 @@ Inv-loop buf word numbers text₀ at₀ i₀ text at i = (i ≤ length numbers) 
 abbrev μ-loop : tie.MeasureT-loop
 μ-loop buf word numbers text₀ at₀ i₀ text at i = length numbers - i
 
--- HELPERS
 -- after the last number: the line and its length
 ended : (c : tie.After-loop Inv-loop μ-loop) → c .before .loop .i ≡ length (c .before .before .before .before .before .before .before .before .args .numbers .now)
 ended c = omega arith
@@ -39,47 +31,35 @@ whole c = finished (c .before .before .before .before .before .before .before .b
 long : (c : tie.After-loop Inv-loop μ-loop) → c .before .loop .at + 1 ≡ length (lineOf (c .before .before .before .before .before .before .before .before .args .word .now) (c .before .before .before .before .before .before .before .before .args .numbers .now))
 long c = length-finished (c .before .before .before .before .before .before .before .before .args .word .now) (c .before .before .before .before .before .before .before .before .args .numbers .now) (c .before .loop .text) (c .before .loop .at) (c .before .loop .i) (fits c) (ended c) (c .before .loop .inv .3)
 
--- END HELPERS
-
--- src/lib.rt:33:36
 slice-aggregate-copy : tie.Need-slice-aggregate-copy Inv-loop μ-loop
 slice-aggregate-copy c = search needs
 
--- src/lib.rt:33:9
 copy-requires : tie.Need-copy-requires Inv-loop μ-loop
 copy-requires c κs = search needs
 
--- src/lib.rt:35:5
 loop-holds : tie.Need-loop-holds Inv-loop μ-loop
 unfolding lineOf
 loop-holds c = let copied : take (c .before .copy .result) (c .before .copy .last .1 .0) ≡ c .before .before .before .before .before .before .args .word .now = front (c .before .copy .last .1 .0) (c .before .before .before .before .before .before .args .word .now) _ (c .before .copy .result) (c .before .copy .ensures .0) (c .before .copy .ensures .1) in
     (omega arith, search needs, omega (arith, c .before .copy .ensures .0), rw copied refl)
 
--- src/lib.rt:36:21
 slice-aggregate-number : tie.Need-slice-aggregate-number Inv-loop μ-loop
 slice-aggregate-number c = search needs
 
--- src/lib.rt:36:36
 mul-number : tie.Need-mul-number Inv-loop μ-loop
 mul-number c = search needs
 
--- src/lib.rt:36:36
 shared-slice-read-number : tie.Need-shared-slice-read-number Inv-loop μ-loop
 shared-slice-read-number c = search needs
 
--- src/lib.rt:36:9
 number-requires : tie.Need-number-requires Inv-loop μ-loop
 number-requires c κs = search needs
 
--- src/lib.rt:37:9
 add-i : tie.Need-add-i Inv-loop μ-loop
 add-i c = search needs
 
--- src/lib.rt:35:5
 loop-less : tie.Need-loop-less Inv-loop μ-loop
 loop-less c = search needs
 
--- src/lib.rt:35:5
 loop-again : tie.Need-loop-again Inv-loop μ-loop
 loop-again c = (
   omega arith,
@@ -88,35 +68,27 @@ loop-again c = (
   next-number (c .before .before .before .before .before .before .before .before .before .before .before .before .args .word .now) (c .before .before .before .before .before .before .before .before .before .before .before .before .args .numbers .now) (take (c .before .before .before .before .before .loop .at) (c .before .before .before .before .before .loop .text)) _ (c .before .before .before .before .before .loop .i) (omega arith) (c .before .before .before .before .before .loop .inv .3) (c .before .number .ensures .1),
 )
 
--- src/lib.rt:39:5
 array-write-text : tie.Need-array-write-text Inv-loop μ-loop
 array-write-text c = omega arith
 
--- src/lib.rt:40:13
 add-n : tie.Need-add-n Inv-loop μ-loop
 add-n c = search needs
 
--- src/lib.rt:42:9
 returns : tie.Need-returns Inv-loop μ-loop
 returns c = too-short _ _ (omega (arith, long (c .before)))
 
--- src/lib.rt:44:17
 array-share-prefix-text : tie.Need-array-share-prefix-text Inv-loop μ-loop
 array-share-prefix-text c = rw length-set (omega arith)
 
--- src/lib.rt:44:17
 slice-aggregate-copy-2 : tie.Need-slice-aggregate-copy-2 Inv-loop μ-loop
 slice-aggregate-copy-2 c = sym (length-take-le _ _ (rw length-set (omega arith)))
 
--- src/lib.rt:44:5
 copy-requires-2 : tie.Need-copy-requires-2 Inv-loop μ-loop
 copy-requires-2 c κs = rw (whole (c .before .before .before)) (omega (arith, long (c .before .before .before)))
 
--- src/lib.rt:27:1
 same-length : tie.Need-same-length Inv-loop μ-loop
 same-length c = search needs
 
--- src/lib.rt:27:1
 returns-2 : tie.Need-returns-2 Inv-loop μ-loop
 returns-2 c = written _ _ _ _ (omega (arith, long (c .before .before .before .before .before .before))) (c .before .before .copy2 .ensures .0 ∙ ap length (whole (c .before .before .before .before .before .before))) (rw (whole (c .before .before .before .before .before .before)) at (c .before .before .copy2 .ensures .1))
 
