@@ -65,7 +65,7 @@ impl Serials {
 }
 
 // The place of an account, and 0 where there is no such account.
-fn slot(account: u16) -> usize
+pub fn slot(account: u16) -> usize
     ensures { λ r. ⌜ r ≡ slotOf account ⌝ }
 {
     let a = account as usize;
