@@ -1,0 +1,47 @@
+-- The round trips of values and bytes, over every layout.
+use Prim.Native.Nat.{ℕ, zero, suc, _+_, _≤_, _<_}
+use mathlib.Core.Path.{_≡_, refl, sym, ap, _∙_}
+use mathlib.Core.List.{List, [], _∷_, _++_, append-assoc}
+use native.Mathlib.Omega.{arith}
+use lib.ListN.{length, take, drop, length-append, length-drop}
+use lib.Seq.{take-at, drop-at, take-add, drop-drop, length-take-le}
+use Rattle.codec.specs.Bytes.{le, un, cap, Bytes}
+use Rattle.codec.specs.Layouts.{total, pack, unpack, Fit}
+use Rattle.codec.proofs.Bytes.{length-le, un-le, un-lt, bytes-take, bytes-drop, le-un-take}
+
+pub length-pack : (ws vs : List ℕ) → length vs ≡ length ws → length (pack ws vs) ≡ total ws
+length-pack [] vs h = refl
+length-pack (w ∷ ws) [] h = omega arith
+length-pack (w ∷ ws) (v ∷ vs) h =
+    let i : length (pack ws vs) ≡ total ws = length-pack ws vs (omega arith) in
+    omega (arith, length-append (le w v) (pack ws vs), length-le w v)
+
+pub unpack-pack : (ws vs rest : List ℕ) → Fit ws vs → unpack ws (pack ws vs ++ rest) ≡ vs
+unpack-pack [] [] rest h = refl
+unpack-pack [] (v ∷ vs) rest h = absurd h
+unpack-pack (w ∷ ws) [] rest h = absurd h
+unpack-pack (w ∷ ws) (v ∷ vs) rest h =
+    rw (append-assoc (le w v) (pack ws vs) rest, take-at (le w v) (pack ws vs ++ rest) w (length-le w v), drop-at (le w v) (pack ws vs ++ rest) w (length-le w v), un-le w v (h .0), unpack-pack ws vs rest (h .1))
+
+pub pack-unpack : (ws l : List ℕ) → total ws ≤ length l → Bytes l → pack ws (unpack ws l) ≡ take (total ws) l
+pack-unpack [] l k h = refl
+pack-unpack (w ∷ ws) l k h =
+    rw (le-un-take w l (omega arith) h, pack-unpack ws (drop w l) (simp length-drop (omega arith)) (bytes-drop w l h), take-add w (total ws) l)
+
+-- what bytes hold fits the layout
+pub fit-unpack : (ws l : List ℕ) → total ws ≤ length l → Bytes l → Fit ws (unpack ws l)
+fit-unpack [] l k h = tt
+fit-unpack (w ∷ ws) l k h =
+    let lt : un (take w l) < cap w = rw (length-take-le w l (omega arith)) at (un-lt (take w l) (bytes-take w l h)) in
+    (lt, fit-unpack ws (drop w l) (simp length-drop (omega arith)) (bytes-drop w l h))
+
+-- the same from a place on, with each field's place a sum of widths: at a layout that is written out the offsets are numerals
+abbrev pub unpackAt : List ℕ → ℕ → ℕ → List ℕ → List ℕ
+unpackAt [] at offset l = []
+unpackAt (w ∷ ws) at offset l = un (take w (drop (at + offset) l)) ∷ unpackAt ws at (offset + w) l
+
+pub unpack-at : (ws : List ℕ) (at offset : ℕ) (l : List ℕ) → unpack ws (drop (at + offset) l) ≡ unpackAt ws at offset l
+unpack-at [] at offset l = refl
+unpack-at (w ∷ ws) at offset l =
+    let e : at + offset + w ≡ at + (offset + w) = omega arith in
+    rw (drop-drop w (at + offset) l, e, unpack-at ws at (offset + w) l)

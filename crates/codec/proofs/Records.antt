@@ -1,0 +1,79 @@
+-- The round trips of records and bytes.
+use Prim.Native.Nat.{ℕ, zero, suc, _+_, _*_, _≤_, _<_}
+use mathlib.Core.Path.{_≡_, refl, sym, ap, _∙_}
+use mathlib.Core.List.{List, [], _∷_, _++_, append-assoc}
+use native.Mathlib.Nat.{add-zero}
+use native.Mathlib.Omega.{arith}
+use lib.ListN.{length, take, drop, getD, length-append, length-drop, take-append-drop}
+use lib.Seq.{drop-at}
+use Rattle.codec.specs.Bytes.{un, Bytes}
+use Rattle.codec.specs.Layouts.{pack, unpack, Fit, total}
+use Rattle.codec.specs.Records.{layout, fieldsOf, recordOf, InRange, encodeRecord, decodeRecord, encodeAll, decodeAll, AllInRange}
+use Rattle.codec.specs.declared.Record.{Record}
+use Rattle.codec.proofs.Bytes.{un-one, bytes-drop}
+use Rattle.codec.proofs.Layouts.{unpack-pack, pack-unpack, unpackAt, unpack-at}
+
+-- the fields of the record at a place
+pub decode-at : (l : List ℕ) (at : ℕ) →
+    decodeRecord (drop at l) ≡ record {
+      raw =
+          record {
+            kind = getD l (at + 0) 0;
+            node = getD l (at + 1) 0;
+            account = un (take 2 (drop (at + 2) l));
+            day = un (take 2 (drop (at + 4) l));
+            serial = un (take 4 (drop (at + 8) l));
+            amount = un (take 4 (drop (at + 12) l));
+            «named_serial» = un (take 4 (drop (at + 16) l));
+            a = un (take 2 (drop (at + 20) l));
+            b = getD l (at + 22) 0;
+            «named_node» = getD l (at + 23) 0;
+          };
+      next = un (take 2 (drop (at + 6) l));
+    }
+unfolding decodeRecord
+decode-at l at =
+    let whole : unpack layout (drop at l) ≡ unpackAt layout at 0 l = ap (λ (n : ℕ). unpack layout (drop n l)) (sym (add-zero at)) ∙ unpack-at layout at 0 l in
+    ap recordOf whole ∙ rw (un-one l (at + 0), un-one l (at + 1), un-one l (at + 22), un-one l (at + 23))
+
+pub length-encode : (r : Record) → length (encodeRecord r) ≡ 24
+unfolding encodeRecord
+length-encode r = refl
+
+pub decode-encode : (r : Record) (rest : List ℕ) → InRange r → decodeRecord (encodeRecord r ++ rest) ≡ r
+unfolding encodeRecord decodeRecord
+decode-encode r rest h = ap recordOf (unpack-pack layout (fieldsOf r) rest h)
+
+pub encode-decode : (l : List ℕ) → 24 ≤ length l → Bytes l → encodeRecord (decodeRecord l) ≡ take 24 l
+unfolding encodeRecord decodeRecord
+encode-decode l k h = pack-unpack layout l k h
+
+-- ---- lists of records
+
+pub length-encodeAll : (rs : List Record) → length (encodeAll rs) ≡ 24 * length rs
+length-encodeAll [] = refl
+length-encodeAll (r ∷ rs) =
+    omega (arith, length-append (encodeRecord r) (encodeAll rs), length-encode r, length-encodeAll rs)
+
+pub length-decodeAll : (n : ℕ) (l : List ℕ) → length (decodeAll n l) ≡ n
+length-decodeAll zero l = refl
+length-decodeAll (suc n) l = ap suc (length-decodeAll n (drop 24 l))
+
+pub decode-encode-all : (rs : List Record) → AllInRange rs → decodeAll (length rs) (encodeAll rs) ≡ rs
+decode-encode-all [] h = refl
+decode-encode-all (r ∷ rs) h =
+    rw (decode-encode r (encodeAll rs) (h .0), drop-at (encodeRecord r) (encodeAll rs) 24 (length-encode r), decode-encode-all rs (h .1))
+
+pub encode-decode-all : (n : ℕ) (l : List ℕ) → length l ≡ 24 * n → Bytes l → encodeAll (decodeAll n l) ≡ l
+encode-decode-all zero [] k h = refl
+encode-decode-all zero (b ∷ l) k h = absurd (omega arith)
+encode-decode-all (suc n) l k h =
+    rw (encode-decode l (omega arith) h, encode-decode-all n (drop 24 l) (simp length-drop (omega arith)) (bytes-drop 24 l h)) (take-append-drop 24 l)
+
+pub encode-append : (rs ts : List Record) → encodeAll (rs ++ ts) ≡ encodeAll rs ++ encodeAll ts
+encode-append [] ts = refl
+encode-append (r ∷ rs) ts = rw (encode-append rs ts, append-assoc (encodeRecord r) (encodeAll rs) (encodeAll ts))
+
+pub in-range-append : (rs ts : List Record) → AllInRange rs → AllInRange ts → AllInRange (rs ++ ts)
+in-range-append [] ts h k = k
+in-range-append (r ∷ rs) ts h k = (h .0, in-range-append rs ts (h .1) k)

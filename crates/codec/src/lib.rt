@@ -1,0 +1,200 @@
+// The bytes of an image: its records and its header, little-endian.
+use entries::Check;
+use entries::Raw;
+use entries::Refusal;
+use entries::both;
+ghost use mathlib.Core.Path.{_≡_};
+ghost use Prim.Native.Nat.{_+_, _*_, _<_};
+ghost use lib.ListN.{getD, take, drop};
+ghost use Rattle.codec.specs.Bytes.{un, eqList};
+ghost use Rattle.codec.specs.Records.{encodeRecord, recordIn};
+ghost use Rattle.codec.specs.Headers.{headerOf, countIn, fitsOf, checkOf};
+
+// An entry as it is given, and its next index.
+pub struct Record {
+    pub raw: Raw,
+    pub next: u16,
+}
+
+// The byte at a place, 0 past the end.
+fn byte_at(image: &[u8], at: usize) -> u8
+    ensures { λ r. ⌜ r ≡ getD (now (image .entry)) at 0 ⌝ }
+{
+    if at < image.len() { image[at] } else { 0 }
+}
+
+fn low(image: &[u8], at: usize) -> u16
+    ensures { λ r. ⌜ (r ≡ getD (now (image .entry)) at 0) × (r < 256) ⌝ }
+{
+    byte_at(image, at) as u16
+}
+
+fn wide(image: &[u8], at: usize) -> u32
+    ensures { λ r. ⌜ (r ≡ getD (now (image .entry)) at 0) × (r < 256) ⌝ }
+{
+    byte_at(image, at) as u32
+}
+
+// The place of a record's field. Record 0 is the header.
+fn place(number: u16, offset: u16) -> usize
+    ensures { λ r. ⌜ r ≡ 24 * number + offset ⌝ }
+{
+    24 * number as usize + offset as usize
+}
+
+fn u8_in(image: &[u8], number: u16, offset: u16) -> u8
+    ensures { λ r. ⌜ r ≡ getD (now (image .entry)) (24 * number + offset) 0 ⌝ }
+{
+    byte_at(image, place(number, offset))
+}
+
+fn u16_in(image: &[u8], number: u16, offset: u16) -> u16
+    ensures { λ r. ⌜ r ≡ un (take 2 (drop (24 * number + offset) (now (image .entry)))) ⌝ }
+{
+    let at = place(number, offset);
+    low(image, at) + 256 * low(image, at + 1)
+}
+
+fn u32_in(image: &[u8], number: u16, offset: u16) -> u32
+    ensures { λ r. ⌜ r ≡ un (take 4 (drop (24 * number + offset) (now (image .entry)))) ⌝ }
+{
+    let at = place(number, offset);
+    wide(image, at)
+        + 256 * (wide(image, at + 1) + 256 * (wide(image, at + 2) + 256 * wide(image, at + 3)))
+}
+
+// The count in the header.
+pub fn count_in(image: &[u8]) -> u16
+    ensures { λ r. ⌜ r ≡ countIn (now (image .entry)) ⌝ }
+{
+    u16_in(image, 0, 4)
+}
+
+// The record of a number, from 1. What the image is too short for is 0.
+pub fn record_in(image: &[u8], number: u16) -> Record
+    ensures { λ r. ⌜ r ≡ recordIn (now (image .entry)) number ⌝ }
+{
+    let raw = Raw {
+        kind: u8_in(image, number, 0),
+        node: u8_in(image, number, 1),
+        account: u16_in(image, number, 2),
+        day: u16_in(image, number, 4),
+        serial: u32_in(image, number, 8),
+        amount: u32_in(image, number, 12),
+        named_serial: u32_in(image, number, 16),
+        a: u16_in(image, number, 20),
+        b: u8_in(image, number, 22),
+        named_node: u8_in(image, number, 23),
+    };
+    Record {
+        raw,
+        next: u16_in(image, number, 6),
+    }
+}
+
+// The 24 bytes of a record.
+pub fn encode(raw: Raw, next: u16) -> [u8; 24]
+    ensures { λ r. ⌜ r ≡ encodeRecord (record { raw = raw; next = next }) ⌝ }
+{
+    [
+        raw.kind,
+        raw.node,
+        (raw.account % 256) as u8,
+        (raw.account / 256 % 256) as u8,
+        (raw.day % 256) as u8,
+        (raw.day / 256 % 256) as u8,
+        (next % 256) as u8,
+        (next / 256 % 256) as u8,
+        (raw.serial % 256) as u8,
+        (raw.serial / 256 % 256) as u8,
+        (raw.serial / 256 / 256 % 256) as u8,
+        (raw.serial / 256 / 256 / 256 % 256) as u8,
+        (raw.amount % 256) as u8,
+        (raw.amount / 256 % 256) as u8,
+        (raw.amount / 256 / 256 % 256) as u8,
+        (raw.amount / 256 / 256 / 256 % 256) as u8,
+        (raw.named_serial % 256) as u8,
+        (raw.named_serial / 256 % 256) as u8,
+        (raw.named_serial / 256 / 256 % 256) as u8,
+        (raw.named_serial / 256 / 256 / 256 % 256) as u8,
+        (raw.a % 256) as u8,
+        (raw.a / 256 % 256) as u8,
+        raw.b,
+        raw.named_node,
+    ]
+}
+
+// The header of an image with so many records.
+pub fn header(count: u16) -> [u8; 24]
+    ensures { λ r. ⌜ r ≡ headerOf count ⌝ }
+{
+    [
+        b'C',
+        b'H',
+        b'B',
+        b'1',
+        (count % 256) as u8,
+        (count / 256 % 256) as u8,
+        0,
+        0,
+        0,
+        0,
+        0,
+        0,
+        0,
+        0,
+        0,
+        0,
+        0,
+        0,
+        0,
+        0,
+        0,
+        0,
+        0,
+        0,
+    ]
+}
+
+// Whether two slices hold the same bytes.
+fn same(a: &[u8], b: &[u8]) -> bool
+    ensures { λ r. ⌜ r ≡ eqList (now (a .entry)) (now (b .entry)) ⌝ }
+{
+    if a.len() != b.len() {
+        return false;
+    }
+    let mut i = 0;
+    while i < a.len() {
+        if a[i] != b[i] {
+            return false;
+        }
+        i += 1;
+    }
+    true
+}
+
+// Whether an image may have this length: 24 to 24,600 bytes, a multiple of 24.
+fn fits(n: usize) -> bool
+    ensures { λ r. ⌜ r ≡ fitsOf n ⌝ }
+{
+    both(both(24 <= n, n <= 24600), n % 24 == 0)
+}
+
+// 17 to 19: the length, the header, the count.
+pub fn check(image: &[u8]) -> Check
+    ensures { λ r. ⌜ r ≡ checkOf (now (image .entry)) ⌝ }
+{
+    let n = image.len();
+    if !fits(n) {
+        return Check::Refused(Refusal::ImageLength);
+    }
+    let mark = [b'C', b'H', b'B', b'1'];
+    let zeros = [0u8; 18];
+    if !both(same(&image[..4], &mark), same(&image[6..24], &zeros)) {
+        return Check::Refused(Refusal::ImageHeader);
+    }
+    if count_in(image) as usize != n / 24 - 1 {
+        return Check::Refused(Refusal::ImageCount);
+    }
+    Check::Passed
+}

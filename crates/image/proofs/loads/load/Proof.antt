@@ -1,0 +1,174 @@
+use borrow.Author.Needs.{needs}
+use mathlib.Core.Path.{_≡_, refl, sym, ap, _∙_}
+use Prim.Native.Nat.{_+_, _-_, _≤_}
+use native.Mathlib.Omega.{arith}
+use denote.Ref.{now}
+use Rattle.entries.specs.Refusals.{refusalNumber}
+use Rattle.entries.specs.declared.refusals.Check.the-variants as check
+use Rattle.codec.specs.Records.{recordIn}
+use Rattle.codec.specs.Headers.{checkOf}
+use Rattle.book.specs.Posting.{postOf}
+use Rattle.book.proofs.Chain.{slot-inside}
+use Rattle.image.specs.Loads.{loadedReply, stopOf, loadOf}
+use Rattle.image.proofs.Loading.{refusal-above, checkNumber, verdict-stop, restOf, rest-step, rest-stop, rest-end, load-refused, load-starts}
+use Rattle.image.proofs.loads.load.Statement.{statement}
+use Rattle.image.proofs.loads.load.Tie as tie
+use Rattle.image.proofs.loads.load.Reads as reads
+use Rattle.image.proofs.loads.load.Lts as lts
+use Rattle.book.proofs.Book.fresh.Reads as fresh-reads
+use Rattle.book.proofs.Book.post.Reads as post-reads
+use Rattle.book.proofs.slot.Reads as slot-reads
+use Rattle.codec.proofs.check.Reads as check-reads
+use Rattle.codec.proofs.count_in.Reads as count-in-reads
+use Rattle.codec.proofs.record_in.Reads as record-in-reads
+use Rattle.image.proofs.loads.verdict.Reads as verdict-reads
+
+abbrev Inv-loop : tie.InvT-loop
+Inv-loop image count book₀ i₀ book i = (i ≤ count) × (loadOf image ≡ restOf image count book i)
+
+abbrev μ-loop : tie.MeasureT-loop
+μ-loop image count book₀ i₀ book i = count - i
+
+-- HELPERS
+passes : (c : tie.After-enum-told Inv-loop μ-loop) → checkOf (now (c .before .before .before .before .args .image)) ≡ check.Passed
+passes c = sym (c .before .before .check .ensures) ∙ c .enum-told .given .1
+
+-- the verdict on a record is its refusal
+stopped : (c : tie.After-verdict Inv-loop μ-loop) →
+    checkNumber (c .verdict .result) ≡ stopOf (c .before .before .before .before .before .before .before .loop .book) (recordIn (now (c .before .before .before .before .before .before .before .before .before .before .before .before .before .before .args .image)) (c .before .before .before .before .before .before .before .loop .i + 1))
+stopped c =
+    rw (c .verdict .ensures, c .before .before .before .slot .ensures)
+    (verdict-stop (c .before .post .result .answer) (c .before .before .before .before .before .before .before .loop .book) (c .before .before .before .before .before .record-in .result) (ap (λ x. x .reply) (c .before .post .ensures))) ∙
+    ap (stopOf (c .before .before .before .before .before .before .before .loop .book)) (c .before .before .before .before .before .record-in .ensures)
+
+-- END HELPERS
+
+-- src/loads.rt:41:38
+check-requires : tie.Need-check-requires Inv-loop μ-loop
+check-requires c κs = search needs
+
+-- src/loads.rt:41:27
+enum-known-refusal : tie.Need-enum-known-refusal Inv-loop μ-loop
+enum-known-refusal c = search needs
+
+-- src/loads.rt:43:19
+fresh-requires : tie.Need-fresh-requires Inv-loop μ-loop
+fresh-requires c κs = search needs
+
+-- src/loads.rt:42:9
+returns : tie.Need-returns Inv-loop μ-loop
+unfolding loadedReply
+returns c = rw (load-refused (now (c .before .before .before .before .before .before .args .image)) (c .before .before .refusal .given .0 .0) (sym (c .before .before .before .before .check .ensures) ∙ c .before .before .refusal .given .1), c .fresh .ensures) refl
+
+enum-told : tie.Need-enum-told Inv-loop μ-loop
+enum-told c = search needs
+
+-- src/loads.rt:47:9
+count-in-requires : tie.Need-count-in-requires Inv-loop μ-loop
+count-in-requires c κs = search needs
+
+-- src/loads.rt:48:20
+fresh-requires-2 : tie.Need-fresh-requires-2 Inv-loop μ-loop
+fresh-requires-2 c κs = search needs
+
+-- src/loads.rt:50:5
+loop-holds : tie.Need-loop-holds Inv-loop μ-loop
+loop-holds c = (omega arith, rw (c .before .count-in .ensures, c .fresh2 .ensures) (load-starts (now (c .before .before .before .before .before .before .args .image)) (passes (c .before .before))))
+
+-- src/loads.rt:51:22
+add-number : tie.Need-add-number Inv-loop μ-loop
+add-number c = search needs
+
+-- src/loads.rt:52:13
+record-in-requires : tie.Need-record-in-requires Inv-loop μ-loop
+record-in-requires c κs = search needs
+
+-- src/loads.rt:54:13
+slot-requires : tie.Need-slot-requires Inv-loop μ-loop
+slot-requires c κs = search needs
+
+-- src/loads.rt:55:23
+mul-account : tie.Need-mul-account Inv-loop μ-loop
+mul-account c = omega (arith, slot-inside (c .before .before .record-in .result .raw .account), c .slot .ensures)
+
+-- src/loads.rt:55:23
+element-copy-out-account : tie.Need-element-copy-out-account Inv-loop μ-loop
+element-copy-out-account c = rw (c .slot .ensures) (slot-inside _)
+
+-- src/loads.rt:56:13
+post-requires : tie.Need-post-requires Inv-loop μ-loop
+post-requires c κs = search needs
+
+-- src/loads.rt:58:42
+verdict-requires : tie.Need-verdict-requires Inv-loop μ-loop
+verdict-requires c κs = search needs
+
+-- src/loads.rt:58:31
+enum-known-refusal-2 : tie.Need-enum-known-refusal-2 Inv-loop μ-loop
+enum-known-refusal-2 c = search needs
+
+-- src/loads.rt:60:23
+fresh-requires-3 : tie.Need-fresh-requires-3 Inv-loop μ-loop
+fresh-requires-3 c κs = search needs
+
+-- src/loads.rt:59:13
+returns-2 : tie.Need-returns-2 Inv-loop μ-loop
+unfolding loadedReply checkNumber
+returns-2 c =
+    let l = c .before .before .before .before .before .before .before .before .before .before .before .loop in
+    let n = c .before .before .refusal2 .given .0 .0 in
+    let stop : refusalNumber n ≡ stopOf (l .book) (recordIn (now (c .before .before .before .before .before .before .before .before .before .before .before .before .before .before .before .before .before .before .args .image)) (l .i + 1)) = sym (ap checkNumber (c .before .before .refusal2 .given .1)) ∙ stopped (c .before .before .before .before) in
+    rw (l .inv .1, rest-stop (now (c .before .before .before .before .before .before .before .before .before .before .before .before .before .before .before .before .before .before .args .image)) (c .before .before .before .before .before .before .before .before .before .before .before .before .before .count-in .result) (l .book) (l .i) (refusalNumber n) (omega arith) stop (refusal-above n), c .fresh3 .ensures) refl
+
+enum-told-2 : tie.Need-enum-told-2 Inv-loop μ-loop
+enum-told-2 c = search needs
+
+-- src/loads.rt:50:5
+loop-less : tie.Need-loop-less Inv-loop μ-loop
+loop-less c = search needs
+
+-- src/loads.rt:50:5
+loop-again : tie.Need-loop-again Inv-loop μ-loop
+unfolding checkNumber
+loop-again c =
+    let l = c .before .before .before .before .before .before .before .before .before .before .loop in
+    let stop : stopOf (l .book) (recordIn (now (c .before .before .before .before .before .before .before .before .before .before .before .before .before .before .before .before .before .args .image)) (l .i + 1)) ≡ 0 = sym (stopped (c .before .before .before)) ∙ ap checkNumber (c .before .enum-told2 .given .1) in
+    let next : c .before .before .before .before .post .result .book ≡ postOf (l .book) (recordIn (now (c .before .before .before .before .before .before .before .before .before .before .before .before .before .before .before .before .before .args .image)) (l .i + 1) .raw) .book = ap (λ x. x .book) (c .before .before .before .before .post .ensures) ∙ ap (λ x. postOf (l .book) (x .raw) .book) (c .before .before .before .before .before .before .before .before .record-in .ensures) in
+    (omega arith, l .inv .1 ∙ rest-step (now (c .before .before .before .before .before .before .before .before .before .before .before .before .before .before .before .before .before .args .image)) (c .before .before .before .before .before .before .before .before .before .before .before .before .count-in .result) (l .book) (c .before .before .before .before .post .result .book) (l .i) (omega arith) stop next)
+
+-- src/loads.rt:38:1
+returns-3 : tie.Need-returns-3 Inv-loop μ-loop
+unfolding loadedReply
+returns-3 c =
+    let l = c .before .loop in
+    let e : l .i ≡ c .before .before .before .count-in .result = omega arith in
+    sym (l .inv .1 ∙ rw e (rest-end (now (c .before .before .before .before .before .before .before .before .args .image)) (c .before .before .before .count-in .result) (l .book)))
+
+pub load-spec : {M : Type 1} → statement M
+load-spec =
+    tie.close
+    (tie.spec
+    Inv-loop
+    μ-loop
+    check-requires
+    enum-known-refusal
+    fresh-requires
+    returns
+    enum-told
+    count-in-requires
+    fresh-requires-2
+    loop-holds
+    add-number
+    record-in-requires
+    slot-requires
+    mul-account
+    element-copy-out-account
+    post-requires
+    verdict-requires
+    enum-known-refusal-2
+    fresh-requires-3
+    returns-2
+    enum-told-2
+    loop-less
+    loop-again
+    returns-3)

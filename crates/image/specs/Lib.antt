@@ -1,0 +1,4 @@
+pub mod Raws
+pub mod Saves
+pub mod Loads
+pub mod Rounds

@@ -1,0 +1,64 @@
+-- A saved book loads as the same book, and an image that loads saves as the same bytes.
+use Prim.Native.Nat.{ℕ, _≤_}
+use mathlib.Core.Path.{_≡_}
+use mathlib.Core.Bool.{cond}
+use mathlib.Core.List.{List, [], _∷_, _++_, map}
+use lib.ListN.{length, drop}
+use lib.Dec.{eqb, ltb}
+use Rattle.entries.specs.Refusals.{refusalNumber}
+use Rattle.entries.specs.declared.refusals.Refusal.the-variants as no
+use Rattle.entries.specs.declared.raw.Raw.{Raw}
+use Rattle.codec.specs.Bytes.{Bytes}
+use Rattle.codec.specs.Records.{InRange}
+use Rattle.codec.specs.declared.Record.{Record}
+use Rattle.book.specs.Fresh.{freshBook}
+use Rattle.book.specs.Posting.{postOf}
+use Rattle.book.specs.declared.Book.{Book}
+use Rattle.image.specs.Saves.{SaveReply, refusedSave, acceptedSave, sizeOf, bytesOf, recordsOf, imageOf, savedIn}
+use Rattle.image.specs.Loads.{LoadReply, wholeOf, failedOf, loadAll, loadOf, recordsIn}
+
+-- the book that a list of postings leaves, refused ones included
+abbrev pub postedAll : Book → List Raw → Book
+postedAll b [] = b
+postedAll b (r ∷ rs) = postedAll (postOf b r .book) rs
+
+-- what every value of the type satisfies: each field is below 2^8, 2^16 or 2^32
+abbrev pub Typed : Raw → Type 0
+Typed r = InRange (record { raw = r; next = 0 })
+
+abbrev pub AllTyped : List Raw → Type 0
+AllTyped [] = Unit {0}
+AllTyped (r ∷ rs) = Typed r × AllTyped rs
+
+abbrev pub rawIn : Record → Raw
+rawIn r = r .raw
+
+pub record RoundTrips : Type 0 where
+  -- For every list of postings, the image of the book that they leave loads as that book, whole.
+  pub saved-loads : (rs : List Raw) → AllTyped rs → loadOf (imageOf (postedAll freshBook rs)) ≡ wholeOf (postedAll freshBook rs)
+  -- For every list of bytes that loads, the image of the loaded book is those bytes.
+  pub loaded-saves : (l : List ℕ) → Bytes l → loadOf l .refusal ≡ 0 → imageOf (loadOf l .book) ≡ l
+  -- The book that a load accepts is the one that the postings of its records leave.
+  pub loaded-posted : (l : List ℕ) → loadOf l .refusal ≡ 0 → loadOf l .book ≡ postedAll freshBook (map rawIn (recordsIn l))
+
+-- a save and a load of what it wrote
+unfoldable pub reloadOf : Book → List ℕ → LoadReply
+reloadOf b buf =
+    cond (ltb (length buf) (bytesOf b)) (failedOf (refusalNumber no.BufferShort) 0) (loadAll (recordsOf b (sizeOf b)) freshBook 1)
+
+pub record Reloads (b : Book) (before after : List ℕ) (r : LoadReply) : Type 0 where
+  pub saved : after ≡ savedIn b before
+  pub loaded : r ≡ reloadOf b before
+  -- of a book that postings leave it is that book
+  pub same : (rs : List Raw) → b ≡ postedAll freshBook rs → bytesOf b ≤ length before → r ≡ wholeOf b
+
+-- a load and a save of what was loaded: the same bytes
+unfoldable pub resaveOf : List ℕ → List ℕ → SaveReply
+resaveOf image buf =
+    cond (eqb (loadOf image .refusal) 0)
+    (cond (ltb (length buf) (length image)) (refusedSave (refusalNumber no.BufferShort)) (acceptedSave (length image)))
+    (refusedSave (loadOf image .refusal))
+
+unfoldable pub resavedIn : List ℕ → List ℕ → List ℕ
+resavedIn image buf =
+    cond (eqb (loadOf image .refusal) 0) (cond (ltb (length buf) (length image)) buf (image ++ drop (length image) buf)) buf

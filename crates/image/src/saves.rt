@@ -1,0 +1,174 @@
+// A save.
+use book::Book;
+use codec::encode;
+use codec::header;
+use entries::Data;
+use entries::Entry;
+use entries::Kind;
+use entries::Raw;
+use entries::Refusal;
+use measures::Cents;
+ghost use mathlib.Core.Path.{_≡_};
+ghost use Prim.Native.Nat.{_+_, _≤_, min};
+ghost use lib.ListN.{length};
+ghost use Rattle.book.specs.Fresh.{entriesMost};
+ghost use Rattle.image.specs.Raws.{narrow, rawFrom, rawOf};
+ghost use Rattle.image.specs.Saves.{written, savedReply, saveOf, savedIn};
+
+pub enum Saved {
+    Refused(Refusal),
+    // The bytes written.
+    Length(usize),
+}
+
+// An amount in 32 bits, and the largest number where it does not fit.
+fn narrow(amount: Cents) -> u32
+    ensures { λ r. ⌜ r ≡ narrow amount ⌝ }
+{
+    if amount.0 <= 4294967295 {
+        amount.0 as u32
+    } else {
+        4294967295
+    }
+}
+
+fn raw_from(
+    kind: Kind,
+    entry: Entry,
+    amount: Cents,
+    named_serial: u32,
+    a: u16,
+    b: u8,
+    named_node: u8,
+) -> Raw
+    ensures { λ r. ⌜ r ≡ rawFrom kind entry amount «named_serial» a b «named_node» ⌝ }
+{
+    let day = entry.day;
+    Raw {
+        kind: kind.number(),
+        node: entry.node,
+        account: entry.account,
+        day: day.0,
+        serial: entry.serial,
+        amount: narrow(amount),
+        named_serial,
+        a,
+        b,
+        named_node,
+    }
+}
+
+// The entry as it was given.
+pub fn raw_of(entry: Entry) -> Raw
+    ensures { λ r. ⌜ r ≡ rawOf entry ⌝ }
+{
+    let what = entry.data;
+    match what {
+        Data::Unused => raw_from(Kind::Unknown, entry, Cents(0), 0, 0, 0, 0),
+        Data::Contribution {
+            amount,
+            built,
+            phases,
+            held: _,
+            to_arrears: _,
+            paid_out: _,
+            retained: _,
+            added: _,
+            closed: _,
+        } => raw_from(Kind::Contribution, entry, amount, 0, built.0, phases, 0),
+        Data::AddedCustomer {
+            named_node,
+            named_serial,
+            shared,
+            phases,
+        } => raw_from(
+            Kind::AddedCustomer,
+            entry,
+            Cents(0),
+            named_serial,
+            shared.0,
+            phases,
+            named_node,
+        ),
+        Data::Bill {
+            charge,
+            period,
+            served,
+            standing: _,
+            corrected: _,
+        } => raw_from(Kind::Bill, entry, charge, 0, period, served, 0),
+        Data::Payment {
+            amount,
+            standing: _,
+            corrected: _,
+        } => raw_from(Kind::Payment, entry, amount, 0, 0, 0, 0),
+        Data::Deposit { amount, rate } => raw_from(Kind::Deposit, entry, amount, 0, rate, 0, 0),
+        Data::DepositReturn => raw_from(Kind::DepositReturn, entry, Cents(0), 0, 0, 0, 0),
+        Data::Expiry {
+            named_node,
+            named_serial,
+        } => raw_from(
+            Kind::Expiry,
+            entry,
+            Cents(0),
+            named_serial,
+            0,
+            0,
+            named_node,
+        ),
+        Data::Correction {
+            named_node,
+            named_serial,
+            amount,
+        } => raw_from(
+            Kind::Correction,
+            entry,
+            amount,
+            named_serial,
+            0,
+            0,
+            named_node,
+        ),
+    }
+}
+
+// Writes bytes over a buffer from a place on.
+fn put(buf: &mut [u8], at: usize, bytes: &[u8])
+    requires { ⌜ at + length (now bytes) ≤ length (now buf) ⌝ }
+    ensures { λ _. ⌜ now (buf .exit) ≡ written (now (buf .entry)) at (now (bytes .entry)) ⌝ }
+{
+    let mut i = 0;
+    while i < bytes.len() {
+        buf[at + i] = bytes[i];
+        i += 1;
+    }
+}
+
+// How many entries an image has.
+fn size(count: u16) -> u16
+    ensures { λ r. ⌜ (r ≡ min count entriesMost) × (r ≤ entriesMost) ⌝ }
+{
+    if count < 1024 { count } else { 1024 }
+}
+
+// Writes the book's image at the start of a buffer that has room for it (21).
+pub fn save(book: Book, buf: &mut [u8]) -> Saved
+    ensures { λ r. ⌜ (savedReply r ≡ saveOf book (now (buf .entry))) × (now (buf .exit) ≡ savedIn book (now (buf .entry))) ⌝ }
+{
+    let size = size(book.count);
+    let count = size as usize;
+    let total = 24 * (count + 1);
+    if buf.len() < total {
+        return Saved::Refused(Refusal::BufferShort);
+    }
+    let first = header(size);
+    put(buf, 0, &first);
+    let mut i: usize = 0;
+    while i < count {
+        let entry = book.entries[i];
+        let bytes = encode(raw_of(entry), entry.next);
+        put(buf, 24 * (i + 1), &bytes);
+        i += 1;
+    }
+    Saved::Length(total)
+}
