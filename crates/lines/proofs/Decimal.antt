@@ -9,6 +9,7 @@ use lib.Dec.{ltb, leb}
 use borrow.Author.Tests.{ltb-true, ltb-false, lt-ltb, le-ltb, leb-true, leb-false}
 use Rattle.io.specs.Digits.{glyph, Fewest}
 use Rattle.lines.specs.Decimal.{digitsIn, digits, valueAfter, ReadBack}
+use Rattle.io.specs.Digits.{digits as lastDigits}
 
 -- 10 ^ k is above k
 above : (k : ℕ) → k < 10 ^ k

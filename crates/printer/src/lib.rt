@@ -1,10 +1,8 @@
 // What the statement printer writes to standard output.
-use book::Book;
-use book::slot;
+use book::{Book, slot};
 use entries::Refusal;
-use lines::account_line;
-use lines::end_line;
-use lines::refused_line;
+use image::{LoadAnswer, Loaded};
+use lines::{account_line, end_line, refused_line};
 use queries::statement;
 
 // The line of an account, where it has entries.
@@ -37,4 +35,16 @@ pub fn print_refused(refusal: Refusal, record: u16) {
     let mut line = [0u8; 128];
     let n = refused_line(&mut line, refusal.number() as u64, record as u64);
     io::write_all(1, &line[..n]);
+}
+
+// What the printer writes of a load.
+pub fn print_loaded(loaded: Loaded) {
+    let answer = loaded.answer;
+    match answer {
+        LoadAnswer::Accepted => {
+            let book = loaded.book;
+            print_book(book);
+        }
+        LoadAnswer::Refused { refusal, record } => print_refused(refusal, record),
+    }
 }
