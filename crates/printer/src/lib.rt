@@ -1,8 +1,12 @@
 // What the statement printer writes to standard output.
-use book::{Book, slot};
+use book::Book;
+use book::slot;
 use entries::Refusal;
-use image::{LoadAnswer, Loaded};
-use lines::{account_line, end_line, refused_line};
+use image::LoadAnswer;
+use image::Loaded;
+use lines::account_line;
+use lines::end_line;
+use lines::refused_line;
 use queries::statement;
 
 // The line of an account, where it has entries.
