@@ -1,15 +1,10 @@
 // Writes to standard error what a posting costs, in hundredths of the time of one copy of the book in the same run.
 use book::Book;
 use entries::Raw;
-
-fn positive(t: i64) -> u64 {
-    if t > 0 { t as u64 } else { 0 }
-}
-
-// Microseconds of this process.
-fn now() -> u64 {
-    positive(libc::clock())
-}
+use timing::copying;
+use timing::now;
+use timing::report;
+use timing::since;
 
 // An entry of account 5 and node 1 that names, where it names one, the node's entry of serial 1.
 fn entry(kind: u8, serial: u32, amount: u32, a: u16, b: u8) -> Raw {
@@ -38,12 +33,6 @@ fn numbered(raw: Raw, n: u32) -> Raw {
     )
 }
 
-// The time from a moment to now.
-fn since(start: u64) -> u64 {
-    let end = now();
-    if start <= end { end - start } else { 0 }
-}
-
 struct Timed {
     book: Book,
     time: u64,
@@ -69,32 +58,6 @@ fn run(base: Book, raw: Raw, n: u32, every: u32) -> Timed {
         book,
         time: since(start),
     }
-}
-
-// The time of n copies of a book, from one of two places to the other and back.
-fn copying(book: Book, n: u32) -> u64 {
-    let mut books = [book; 2];
-    let start = now();
-    let mut i: u32 = 0;
-    while i < n {
-        let from = (i % 2) as usize;
-        books[1 - from] = books[from];
-        books[1 - from].count = (i % 1000) as u16;
-        i += 1;
-    }
-    let time = since(start);
-    // The books are read, so that the copies are made.
-    if books[0].count == 2000 { 0 } else { time }
-}
-
-fn report(name: &[u8], time: u64, copy: u64) {
-    io::write_all(2, name);
-    if copy != 0 {
-        if time < 1000000000 {
-            io::print_decimal(2, time * 100 / copy);
-        }
-    }
-    io::write_all(2, b"\n");
 }
 
 fn main() {

@@ -1,7 +1,7 @@
 use borrow.Author.Needs.{needs}
 use Prim.Native.Nat.{_-_}
-use Rattle.bench.proofs.copying.Statement.{statement}
-use Rattle.bench.proofs.copying.Tie as tie
+use Rattle.timing.proofs.copying.Statement.{statement}
+use Rattle.timing.proofs.copying.Tie as tie
 
 abbrev Inv-loop : tie.InvT-loop
 Inv-loop n books₀ start i₀ books i = Unit {0}

@@ -7,8 +7,8 @@ use mir.Syntax.{w64}
 use mir.Val.{toZ, ofZ}
 use mir.Facts.{fits-natAbs, sfits-toZ, fits-ofZ}
 use borrow.Author.Needs.{needs}
-use Rattle.bench.proofs.positive.Statement.{statement}
-use Rattle.bench.proofs.positive.Tie as tie
+use Rattle.timing.proofs.positive.Statement.{statement}
+use Rattle.timing.proofs.positive.Tie as tie
 
 -- a number above 0 is no negative one
 above : (z : ℤ) → ltZ (pos 0) z ≡ true → T (nonNeg z)
