@@ -31,7 +31,6 @@ Inv-loop image count book₀ i₀ book i = (i ≤ count) × (loadOf image ≡ re
 abbrev μ-loop : tie.MeasureT-loop
 μ-loop image count book₀ i₀ book i = count - i
 
--- HELPERS
 passes : (c : tie.After-enum-told Inv-loop μ-loop) → checkOf (now (c .before .before .before .before .args .image)) ≡ check.Passed
 passes c = sym (c .before .before .check .ensures) ∙ c .enum-told .given .1
 
@@ -45,8 +44,6 @@ stopped c =
     ap checkNumber (c .verdict .ensures ∙ ap (verdictOf (c .before .post .result .answer) (r .next)) newest) ∙
     verdict-stop (c .before .post .result .answer) b r (ap (λ x. x .reply) (c .before .post .ensures)) ∙
     ap (stopOf b) (c .before .before .before .before .before .record-in .ensures)
-
--- END HELPERS
 
 -- src/loads.rt:41:38
 check-requires : tie.Need-check-requires Inv-loop μ-loop
