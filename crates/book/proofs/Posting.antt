@@ -37,7 +37,7 @@ use Rattle.book.specs.declared.Book.{Book}
 use Rattle.book.specs.declared.Serials.{Serials}
 use Rattle.book.proofs.Chain.{Inside, find-inside}
 
-decided-passed : (c : Check) (o : Outcome) (x : Change) → decidedOf c o ≡ Accepted x → (c ≡ check.Passed) × (o ≡ Accepted x)
+pub decided-passed : (c : Check) (o : Outcome) (x : Change) → decidedOf c o ≡ Accepted x → (c ≡ check.Passed) × (o ≡ Accepted x)
 unfolding decidedOf
 decided-passed check.Passed o x e = (refl, e)
 decided-passed (check.Refused n) o x e = let z : _≡_ {A = ℕ} 0 1 = cc in absurd (omega arith)

@@ -1,6 +1,6 @@
 -- Laws of numbers as bytes, over every width.
 use Prim.Native.Nat.{ℕ, zero, suc, _+_, _*_, _/_, _%_, _≤_, _<_}
-use mathlib.Core.Path.{_≡_, refl, sym, ap, _∙_}
+use mathlib.Core.Path.{_≡_, refl, ap}
 use mathlib.Core.Bool.{Bool, true, false, _&&_}
 use mathlib.Core.List.{List, [], _∷_}
 use native.Mathlib.Nat.{add-zero}
@@ -77,16 +77,17 @@ pub eqList-refl : (l : List ℕ) → eqList l l ≡ true
 eqList-refl [] = refl
 eqList-refl (x ∷ l) = rw (eq-eqb x x refl) (eqList-refl l)
 
-both : (s t : Bool) → s && t ≡ true → (s ≡ true) × (t ≡ true)
-both true t h = (refl, h)
-both false t h = let z : _≡_ {A = ℕ} 0 1 = cc in absurd (omega arith)
+-- both tests are true
+pub both-true : (s t : Bool) → s && t ≡ true → (s ≡ true) × (t ≡ true)
+both-true true t h = (refl, h)
+both-true false t h = let z : _≡_ {A = ℕ} 0 1 = cc in absurd (omega arith)
 
 pub eqList-eq : (a b : List ℕ) → eqList a b ≡ true → a ≡ b
 eqList-eq [] [] h = refl
 eqList-eq [] (y ∷ b) h = let z : _≡_ {A = ℕ} 0 1 = cc in absurd (omega arith)
 eqList-eq (x ∷ a) [] h = let z : _≡_ {A = ℕ} 0 1 = cc in absurd (omega arith)
 eqList-eq (x ∷ a) (y ∷ b) h =
-    let p = both (eqb x y) (eqList a b) h in
+    let p = both-true (eqb x y) (eqList a b) h in
     rw (eqb-true x y (p .0), eqList-eq a b (p .1))
 
 pub eqList-step : (a b : List ℕ) (i : ℕ) → i < length a → i < length b → getD a i 0 ≡ getD b i 0 →

@@ -1,20 +1,20 @@
 -- Laws of the header and of the checks before the records.
-use Prim.Native.Nat.{ℕ, zero, suc, _+_, _*_, _-_, _/_, _%_, _≤_, _<_}
+use Prim.Native.Nat.{ℕ, _+_, _*_, _-_, _/_, _%_, _≤_, _<_}
 use mathlib.Core.Path.{_≡_, refl, sym, ap, _∙_}
-use mathlib.Core.Bool.{Bool, true, false, not, _&&_}
-use mathlib.Core.List.{List, [], _∷_, _++_, append-assoc}
+use mathlib.Core.Bool.{Bool, true, false}
+use mathlib.Core.List.{List, _++_}
 use native.Mathlib.Omega.{arith}
 use lib.ListN.{length, take, drop, replicate, length-drop}
-use lib.Seq.{take-add, drop-drop}
+use lib.Seq.{take-add}
 use lib.Dec.{eqb, leb}
 use borrow.Author.Tests.{eq-eqb, eqb-true, le-leb, leb-true, not-false}
 use Rattle.entries.specs.Refusals.{ruleOf}
 use Rattle.entries.specs.declared.refusals.Refusal.{Refusal}
 use Rattle.entries.specs.declared.refusals.Check.the-variants as check
 use Rattle.entries.proofs.Rows.{silent}
-use Rattle.codec.specs.Bytes.{le, un, Bytes, eqList}
+use Rattle.codec.specs.Bytes.{le, Bytes}
 use Rattle.codec.specs.Headers.{mark, headerOf, countIn, fitsOf, marked, imageRows, checkOf}
-use Rattle.codec.proofs.Bytes.{un-le, le-un-take, bytes-drop, eqList-refl, eqList-eq}
+use Rattle.codec.proofs.Bytes.{un-le, le-un-take, bytes-drop, both-true, eqList-eq}
 
 pub length-header : (n : ℕ) → length (headerOf n) ≡ 24
 unfolding headerOf
@@ -56,14 +56,10 @@ pub rule-kept : (n : Refusal) → ruleOf check.Passed false n ≡ check.Passed
 unfolding ruleOf
 rule-kept n = refl
 
-two : (s t : Bool) → s && t ≡ true → (s ≡ true) × (t ≡ true)
-two true t h = (refl, h)
-two false t h = let z : _≡_ {A = ℕ} 0 1 = cc in absurd (omega arith)
-
 pub fits-ends : (n : ℕ) → fitsOf n ≡ true → (24 ≤ n) × (n ≤ 24600) × (n % 24 ≡ 0)
 fits-ends n e =
-    let fits = two _ _ e in
-    let ends = two _ _ (fits .0) in
+    let fits = both-true _ _ e in
+    let ends = both-true _ _ (fits .0) in
     (leb-true 24 n (ends .0), leb-true n 24600 (ends .1), eqb-true (n % 24) 0 (fits .1))
 
 -- what an image that passes the checks satisfies
@@ -79,7 +75,7 @@ unfolding checkOf
 checked l e =
     let rows = silent check.Passed (imageRows l) e .1 in
     let fits = fits-ends (length l) (not-false _ (rows .0)) in
-    let marked = two _ _ (not-false _ (rows .1 .0)) in
+    let marked = both-true _ _ (not-false _ (rows .1 .0)) in
     let count = eqb-true (countIn l) (length l / 24 - 1) (not-false _ (rows .1 .1 .0)) in
     record {
       low = fits .0;

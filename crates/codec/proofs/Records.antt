@@ -1,5 +1,5 @@
 -- The round trips of records and bytes.
-use Prim.Native.Nat.{ℕ, zero, suc, _+_, _*_, _≤_, _<_}
+use Prim.Native.Nat.{ℕ, zero, suc, _+_, _*_, _≤_}
 use mathlib.Core.Path.{_≡_, refl, sym, ap, _∙_}
 use mathlib.Core.List.{List, [], _∷_, _++_, append-assoc}
 use native.Mathlib.Nat.{add-zero}
@@ -7,7 +7,7 @@ use native.Mathlib.Omega.{arith}
 use lib.ListN.{length, take, drop, getD, length-append, length-drop, take-append-drop}
 use lib.Seq.{drop-at}
 use Rattle.codec.specs.Bytes.{un, Bytes}
-use Rattle.codec.specs.Layouts.{pack, unpack, Fit, total}
+use Rattle.codec.specs.Layouts.{unpack}
 use Rattle.codec.specs.Records.{layout, fieldsOf, recordOf, InRange, encodeRecord, decodeRecord, encodeAll, decodeAll, AllInRange}
 use Rattle.codec.specs.declared.Record.{Record}
 use Rattle.codec.proofs.Bytes.{un-one, bytes-drop}

@@ -1,7 +1,7 @@
 -- An accepted entry's raw entry is recovered whole, and what its effect rewrites keeps its own.
 use Prim.Native.Nat.{ℕ, zero, suc, _≤_, min}
-use mathlib.Core.Path.{_≡_, refl, sym, ap, _∙_}
-use mathlib.Core.Bool.{Bool, true, false, _&&_}
+use mathlib.Core.Path.{_≡_, refl, sym}
+use mathlib.Core.Bool.{true, false}
 use native.Mathlib.Nat.{min-eq-left}
 use native.Mathlib.Omega.{arith}
 use borrow.Author.Tests.{leb-true, eqb-true}
@@ -22,23 +22,20 @@ use Rattle.rules.specs.declared.changes.Found.{Found}
 use Rattle.rules.specs.declared.changes.Found.the-variants.{At, Nothing}
 use Rattle.rules.specs.declared.changes.Outcome.{Outcome}
 use Rattle.rules.specs.declared.changes.Outcome.the-variants.{Refused, Accepted}
+use Rattle.codec.proofs.Bytes.{both-true}
 use Rattle.image.specs.Raws.{rawWith, rawOf}
-
-two : (s t : Bool) → s && t ≡ true → (s ≡ true) × (t ≡ true)
-two true t h = (refl, h)
-two false t h = let z : _≡_ {A = ℕ} 0 1 = cc in absurd (omega arith)
 
 -- ---- ranges
 
 -- a number between two others
 inside : (n low high : ℕ) → between n low high ≡ true → (low ≤ n) × (n ≤ high)
 unfolding between
-inside n low high e = let p = two _ _ e in (leb-true low n (p .0), leb-true n high (p .1))
+inside n low high e = let p = both-true _ _ e in (leb-true low n (p .0), leb-true n high (p .1))
 
 -- the named pair is zero where nothing is named
 unnamed : (r : Raw) → namedFits r false ≡ true → (r .«named_node» ≡ 0) × (r .«named_serial» ≡ 0)
 unfolding namedFits
-unnamed r e = let p = two _ _ e in (eqb-true _ 0 (p .0), eqb-true _ 0 (p .1))
+unnamed r e = let p = both-true _ _ e in (eqb-true _ 0 (p .0), eqb-true _ 0 (p .1))
 
 at-most : (r : Raw) (high : ℕ) → bFits r false high ≡ true → r .b ≤ high
 unfolding bFits
@@ -54,9 +51,9 @@ record Ranged (r : Raw) (k : Kind) : Type 0 where
 ranged : (r : Raw) (k : Kind) → inRangeOf r k ≡ true → Ranged r k
 unfolding inRangeOf
 ranged r k e =
-    let p = two _ _ e in
-    let q = two _ _ (p .0) in
-    let s = two _ _ (p .1) in
+    let p = both-true _ _ e in
+    let q = both-true _ _ (p .0) in
+    let s = both-true _ _ (p .1) in
     record { amount = inside _ _ _ (q .0); named = q .1; a = inside _ _ _ (s .0); b = s .1 }
 
 -- ---- the raw entry again

@@ -19,15 +19,12 @@ use Rattle.entries.specs.declared.kinds.Kind.the-variants as kind
 use Rattle.entries.specs.declared.data.Entry.{Entry}
 use Rattle.entries.specs.declared.data.Data.{Data}
 use Rattle.entries.specs.declared.data.Data.the-variants.{Unused, Contribution, AddedCustomer, Bill, Payment, Deposit, DepositReturn, Expiry, Correction}
-use Rattle.entries.specs.declared.refusals.Check.{Check}
-use Rattle.entries.specs.declared.refusals.Check.the-variants as check
 use Rattle.entries.proofs.Rows.{silent}
 use Rattle.rules.specs.Accounts.{noAccount, numberedOf}
 use Rattle.rules.specs.Answers.{replyOf}
 use Rattle.rules.specs.Checks.{stateRows, checkStateOf}
 use Rattle.rules.specs.Changes.{answerOf, effectOf}
 use Rattle.rules.specs.declared.accounts.Account.{Account}
-use Rattle.rules.specs.declared.answers.Answer.the-variants as answer
 use Rattle.rules.specs.declared.changes.Change.{Change}
 use Rattle.rules.specs.declared.changes.Found.{Found}
 use Rattle.rules.specs.declared.changes.Found.the-variants.{At, Nothing}
@@ -35,23 +32,18 @@ use Rattle.rules.specs.declared.changes.Outcome.{Outcome}
 use Rattle.rules.specs.declared.changes.Outcome.the-variants.{Refused, Accepted}
 use Rattle.codec.specs.declared.Record.{Record}
 use Rattle.book.specs.Fresh.{entriesMost}
-use Rattle.book.specs.Refusals.{entryRows, checkEntryOf, decidedOf, outcomeOf}
+use Rattle.book.specs.Refusals.{entryRows, checkEntryOf, outcomeOf}
 use Rattle.book.specs.Serials.{lastOf}
 use Rattle.book.specs.Chain.{slotOf, entryAt}
 use Rattle.book.specs.Posting.{accountAt, lookupOf, rewritten, namedAt, storedOf, bookAfter, decisionOf, postOf}
 use Rattle.book.specs.declared.Book.{Book}
-use Rattle.book.proofs.Posting.{post-refused}
+use Rattle.book.proofs.Posting.{decided-passed, post-refused}
 use Rattle.image.specs.Raws.{rawWith, rawOf}
 use Rattle.image.specs.Saves.{recordOf, recordsOf}
 use Rattle.image.proofs.Given.{known, raw-again, Rewrites, rewrites}
 use Rattle.image.proofs.Loading.{refusal-above}
 
 -- ---- what an accepted entry has passed
-
-decided-passed : (c : Check) (o : Outcome) (x : Change) → decidedOf c o ≡ Accepted x → (c ≡ check.Passed) × (o ≡ Accepted x)
-unfolding decidedOf
-decided-passed check.Passed o x e = (refl, e)
-decided-passed (check.Refused n) o x e = let z : _≡_ {A = ℕ} 0 1 = cc in absurd (omega arith)
 
 record Passed (b : Book) (r : Raw) (x : Change) : Type 0 where
   kind-known : sameOf (kindOf (r .kind)) kind.Unknown ≡ false

@@ -1,24 +1,21 @@
 -- The two round trips.
-use Prim.Native.Nat.{ℕ, zero, suc, _+_, _*_, _≤_, _<_, min}
+use Prim.Native.Nat.{ℕ, zero, suc, _+_, _*_}
 use mathlib.Core.Path.{_≡_, refl, sym, ap, _∙_}
 use mathlib.Core.Bool.{Bool, true, false, cond}
 use mathlib.Core.List.{List, [], _∷_, _++_, map, append-nil, append-assoc}
 use native.Mathlib.Nat.{min-eq-left}
 use native.Mathlib.Omega.{arith}
-use lib.ListN.{length, take, drop, getD, replicate, length-drop, length-append, length-replicate, getD-replicate, List·getD-eq-default, take-append-drop}
+use lib.ListN.{length, drop, getD, replicate, length-drop, length-replicate, take-append-drop}
 use lib.Seq.{drop-at}
-use lib.Dec.{eqb, ltb}
-use borrow.Author.Tests.{eq-eqb, eqb-true, eqb-false, ltb-true, ltb-false}
+use lib.Dec.{eqb}
+use borrow.Author.Tests.{eq-eqb, eqb-true, eqb-false}
 use Rattle.entries.specs.Refusals.{refusalNumber}
 use Rattle.entries.specs.Entries.{noEntry}
 use Rattle.entries.specs.declared.raw.Raw.{Raw}
-use Rattle.entries.specs.declared.data.Entry.{Entry}
-use Rattle.entries.specs.declared.refusals.Refusal.{Refusal}
 use Rattle.entries.specs.declared.refusals.Refusal.the-variants as no
 use Rattle.entries.specs.declared.refusals.Check.{Check}
 use Rattle.entries.specs.declared.refusals.Check.the-variants as check
 use Rattle.rules.specs.Accounts.{noAccount}
-use Rattle.rules.specs.declared.accounts.Account.{Account}
 use Rattle.rules.specs.declared.changes.Outcome.{Outcome}
 use Rattle.rules.specs.declared.changes.Outcome.the-variants.{Refused, Accepted}
 use Rattle.codec.specs.Bytes.{Bytes}
@@ -27,19 +24,18 @@ use Rattle.codec.specs.Headers.{headerOf, countIn, checkOf}
 use Rattle.codec.specs.declared.Record.{Record}
 use Rattle.codec.proofs.Bytes.{bytes-drop}
 use Rattle.codec.proofs.Records.{length-decodeAll, decode-encode-all, encode-decode-all, in-range-append}
-use Rattle.codec.proofs.Headers.{length-header, count-header, header-passes, Checked, checked, header-again}
+use Rattle.codec.proofs.Headers.{length-header, count-header, header-passes, checked, header-again}
 use Rattle.book.specs.Fresh.{accountsMost, entriesMost, freshBook}
 use Rattle.book.specs.Posting.{accountAt, decisionOf, postOf}
 use Rattle.book.specs.declared.Book.{Book}
 use Rattle.book.specs.Chain.{slotOf}
 use Rattle.book.proofs.Posting.{post-refused}
-use Rattle.image.specs.Saves.{recordOf, sizeOf, recordsOf, bytesOf, imageOf}
+use Rattle.image.specs.Saves.{sizeOf, recordsOf, imageOf}
 use Rattle.image.specs.Loads.{LoadReply, wholeOf, failedOf, stopOf, loadAll, recordsIn, begunOf, loadOf}
 use Rattle.image.specs.Rounds.{postedAll, Typed, AllTyped, rawIn, RoundTrips}
 use Rattle.image.proofs.Saving.{length-image, length-records}
 use Rattle.image.proofs.Loading.{refusal-above, load-begins}
-use Rattle.rules.specs.declared.changes.Change.{Change}
-use Rattle.image.proofs.Step.{Good, Step, accepted, post-step}
+use Rattle.image.proofs.Step.{Good, accepted, post-step}
 
 -- ---- the fresh book
 

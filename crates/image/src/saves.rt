@@ -8,9 +8,12 @@ use entries::Kind;
 use entries::Raw;
 use entries::Refusal;
 use measures::Cents;
+use measures::Metres;
 ghost use mathlib.Core.Path.{_≡_};
 ghost use Prim.Native.Nat.{_+_, _≤_, min};
 ghost use lib.ListN.{length};
+ghost use Rattle.measures.specs.Cents.{cents};
+ghost use Rattle.entries.specs.declared.kinds.Kind.the-variants as kind;
 ghost use Rattle.book.specs.Fresh.{entriesMost};
 ghost use Rattle.image.specs.Raws.{narrow, rawFrom, rawOf};
 ghost use Rattle.image.specs.Saves.{written, savedReply, saveOf, savedIn};
@@ -58,6 +61,20 @@ fn raw_from(
     }
 }
 
+// Of an entry that names another.
+fn naming(kind: Kind, entry: Entry, amount: Cents, node: u8, serial: u32) -> Raw
+    ensures { λ r. ⌜ r ≡ rawFrom kind entry amount serial 0 0 node ⌝ }
+{
+    raw_from(kind, entry, amount, serial, 0, 0, node)
+}
+
+fn customer(entry: Entry, node: u8, serial: u32, shared: Metres, phases: u8) -> Raw
+    ensures { λ r. ⌜ r ≡ rawFrom kind.AddedCustomer entry (cents 0) serial (shared .0) phases node ⌝ }
+{
+    let kind = Kind::AddedCustomer;
+    raw_from(kind, entry, Cents(0), serial, shared.0, phases, node)
+}
+
 // The entry as it was given.
 pub fn raw_of(entry: Entry) -> Raw
     ensures { λ r. ⌜ r ≡ rawOf entry ⌝ }
@@ -69,66 +86,32 @@ pub fn raw_of(entry: Entry) -> Raw
             amount,
             built,
             phases,
-            held: _,
-            to_arrears: _,
-            paid_out: _,
-            retained: _,
-            added: _,
-            closed: _,
+            ..
         } => raw_from(Kind::Contribution, entry, amount, 0, built.0, phases, 0),
         Data::AddedCustomer {
             named_node,
             named_serial,
             shared,
             phases,
-        } => raw_from(
-            Kind::AddedCustomer,
-            entry,
-            Cents(0),
-            named_serial,
-            shared.0,
-            phases,
-            named_node,
-        ),
+        } => customer(entry, named_node, named_serial, shared, phases),
         Data::Bill {
             charge,
             period,
             served,
-            standing: _,
-            corrected: _,
+            ..
         } => raw_from(Kind::Bill, entry, charge, 0, period, served, 0),
-        Data::Payment {
-            amount,
-            standing: _,
-            corrected: _,
-        } => raw_from(Kind::Payment, entry, amount, 0, 0, 0, 0),
+        Data::Payment { amount, .. } => raw_from(Kind::Payment, entry, amount, 0, 0, 0, 0),
         Data::Deposit { amount, rate } => raw_from(Kind::Deposit, entry, amount, 0, rate, 0, 0),
         Data::DepositReturn => raw_from(Kind::DepositReturn, entry, Cents(0), 0, 0, 0, 0),
         Data::Expiry {
             named_node,
             named_serial,
-        } => raw_from(
-            Kind::Expiry,
-            entry,
-            Cents(0),
-            named_serial,
-            0,
-            0,
-            named_node,
-        ),
+        } => naming(Kind::Expiry, entry, Cents(0), named_node, named_serial),
         Data::Correction {
             named_node,
             named_serial,
             amount,
-        } => raw_from(
-            Kind::Correction,
-            entry,
-            amount,
-            named_serial,
-            0,
-            0,
-            named_node,
-        ),
+        } => naming(Kind::Correction, entry, amount, named_node, named_serial),
     }
 }
 

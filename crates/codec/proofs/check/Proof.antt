@@ -18,7 +18,6 @@ use Rattle.codec.proofs.fits.Reads as fits-reads
 use Rattle.codec.proofs.same.Reads as same-reads
 use Rattle.entries.proofs.both.Reads as both-reads
 
--- HELPERS
 fitting : (c : tie.Else1) → fitsOf (length (now (c .before .before .before .args .image))) ≡ true
 fitting c = sym (c .before .fits2 .ensures) ∙ not-false _ (c .if1 .left)
 
@@ -27,8 +26,6 @@ ends c = fits-ends (length (now (c .before .before .before .args .image))) (fitt
 
 marks : (c : tie.After-both) → c .both .result ≡ marked (now (c .before .before .before .before .before .before .before .before .before .before .args .image))
 marks c = simp (c .both .ensures, c .before .same2 .ensures, c .before .before .before .before .same .ensures)
-
--- END HELPERS
 
 -- src/lib.rt:188:9
 fits-requires : tie.Need-fits-requires

@@ -1,6 +1,6 @@
 use Prim.Native.Nat.{_%_}
 use native.Mathlib.Omega.{arith}
-use mathlib.Core.Path.{_≡_, refl}
+use mathlib.Core.Path.{_≡_}
 use Rattle.codec.specs.Records.{encodeRecord}
 use borrow.Author.Needs.{needs}
 use Rattle.codec.proofs.encode.Statement.{statement}

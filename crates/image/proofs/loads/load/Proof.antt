@@ -9,7 +9,9 @@ use Rattle.codec.specs.Records.{recordIn}
 use Rattle.codec.specs.Headers.{checkOf}
 use Rattle.book.specs.Posting.{postOf}
 use Rattle.book.proofs.Chain.{slot-inside}
-use Rattle.image.specs.Loads.{loadedReply, stopOf, loadOf}
+use lib.ListN.{getD}
+use Rattle.rules.specs.Accounts.{noAccount}
+use Rattle.image.specs.Loads.{loadedReply, verdictOf, stopOf, loadOf}
 use Rattle.image.proofs.Loading.{refusal-above, checkNumber, verdict-stop, restOf, rest-step, rest-stop, rest-end, load-refused, load-starts}
 use Rattle.image.proofs.loads.load.Statement.{statement}
 use Rattle.image.proofs.loads.load.Tie as tie
@@ -29,7 +31,6 @@ Inv-loop image count book₀ i₀ book i = (i ≤ count) × (loadOf image ≡ re
 abbrev μ-loop : tie.MeasureT-loop
 μ-loop image count book₀ i₀ book i = count - i
 
--- HELPERS
 passes : (c : tie.After-enum-told Inv-loop μ-loop) → checkOf (now (c .before .before .before .before .args .image)) ≡ check.Passed
 passes c = sym (c .before .before .check .ensures) ∙ c .enum-told .given .1
 
@@ -37,11 +38,12 @@ passes c = sym (c .before .before .check .ensures) ∙ c .enum-told .given .1
 stopped : (c : tie.After-verdict Inv-loop μ-loop) →
     checkNumber (c .verdict .result) ≡ stopOf (c .before .before .before .before .before .before .before .loop .book) (recordIn (now (c .before .before .before .before .before .before .before .before .before .before .before .before .before .before .args .image)) (c .before .before .before .before .before .before .before .loop .i + 1))
 stopped c =
-    rw (c .verdict .ensures, c .before .before .before .slot .ensures)
-    (verdict-stop (c .before .post .result .answer) (c .before .before .before .before .before .before .before .loop .book) (c .before .before .before .before .before .record-in .result) (ap (λ x. x .reply) (c .before .post .ensures))) ∙
-    ap (stopOf (c .before .before .before .before .before .before .before .loop .book)) (c .before .before .before .before .before .record-in .ensures)
-
--- END HELPERS
+    let b = c .before .before .before .before .before .before .before .loop .book in
+    let r = c .before .before .before .before .before .record-in .result in
+    let newest = ap (λ a. getD (b .accounts) a noAccount .newest) (c .before .before .before .slot .ensures) in
+    ap checkNumber (c .verdict .ensures ∙ ap (verdictOf (c .before .post .result .answer) (r .next)) newest) ∙
+    verdict-stop (c .before .post .result .answer) b r (ap (λ x. x .reply) (c .before .post .ensures)) ∙
+    ap (stopOf b) (c .before .before .before .before .before .record-in .ensures)
 
 -- src/loads.rt:41:38
 check-requires : tie.Need-check-requires Inv-loop μ-loop

@@ -1,4 +1,4 @@
-use mathlib.Core.Path.{_≡_, refl}
+use mathlib.Core.Path.{refl}
 use Rattle.image.specs.Loads.{verdictOf}
 use borrow.Author.Needs.{needs}
 use Rattle.image.proofs.loads.verdict.Statement.{statement}

@@ -1,10 +1,10 @@
-use mathlib.Core.Path.{_≡_, refl, sym, ap, _∙_}
+use mathlib.Core.Path.{refl, sym, ap, _∙_}
 use native.Mathlib.Omega.{arith}
 use denote.Ref.{now}
 use lib.ListN.{length-map, length-take}
 use Rattle.entries.specs.Refusals.{refusalNumber}
 use Rattle.image.specs.Saves.{sizeOf, savedReply}
-use Rattle.image.specs.Loads.{loadedReply, failedOf}
+use Rattle.image.specs.Loads.{loadedReply}
 use Rattle.image.proofs.Loading.{refusal-above}
 use Rattle.image.proofs.Ranges.{ranges}
 use Rattle.image.proofs.Again.{Done, done, reload-done, reload-refused}
@@ -17,12 +17,9 @@ use Rattle.book.proofs.Book.fresh.Reads as fresh-reads
 use Rattle.image.proofs.loads.load.Reads as load-reads
 use Rattle.image.proofs.saves.save.Reads as save-reads
 
--- HELPERS
 told : (c : tie.After-n) → Done (c .before .before .before .before .before .before .before .args .book) (now (c .before .before .before .before .before .before .before .args .buf)) (c .n .given .0 .0)
 unfolding savedReply
 told c = done (c .before .before .before .before .before .before .before .args .book) (now (c .before .before .before .before .before .before .before .args .buf)) (c .n .given .0 .0) (sym (ap savedReply (c .n .given .1)) ∙ c .before .before .before .before .save .ensures .0)
-
--- END HELPERS
 
 -- src/rounds.rt:17:11
 save-requires : tie.Need-save-requires

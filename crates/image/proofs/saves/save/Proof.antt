@@ -1,10 +1,10 @@
 use borrow.Author.Needs.{needs}
-use mathlib.Core.Path.{_≡_, refl, sym, ap, _∙_}
+use mathlib.Core.Path.{_≡_, refl}
 use Prim.Native.Nat.{_-_, _≤_}
 use native.Mathlib.Omega.{arith}
 use denote.Ref.{now}
 use lib.ListN.{length, length-map}
-use Rattle.codec.specs.Records.{encodeRecord, encodeAll}
+use Rattle.codec.specs.Records.{encodeAll}
 use Rattle.image.specs.Saves.{written, recordsOf, savedReply}
 use Rattle.image.proofs.Written.{written-nil}
 use Rattle.image.proofs.Saving.{save-step, save-refused, save-done}
@@ -24,12 +24,9 @@ Inv-loop buf₀ book size count total i₀ buf i = (i ≤ count) × (length buf 
 abbrev μ-loop : tie.MeasureT-loop
 μ-loop buf₀ book size count total i₀ buf i = count - i
 
--- HELPERS
 -- owning the book tells that it has 1,024 places
 full : (c : tie.Start Inv-loop μ-loop) → length (c .args .t1 .entries) ≡ 1024
 full c = simp length-map at (c .good .0 .1 .1 .1 .0 .1 .0 .1)
-
--- END HELPERS
 
 -- src/saves.rt:158:9
 size-requires : tie.Need-size-requires Inv-loop μ-loop
