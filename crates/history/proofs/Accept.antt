@@ -130,6 +130,7 @@ pub record Passed (h : History) (r : Raw) (k : Kind) (e : Raw) (f : Fate) (b : B
   pub room : length h < entries
   pub suited : (naming k && not (suits k (kindOf (e .kind)))) ≡ false
   pub deposit : (is k kind.Deposit && ltb 0 (b .deposit) || is k kind.DepositReturn && eqb (b .deposit) 0) ≡ false
+  pub unclosed : (is (kindOf (e .kind)) kind.Contribution && f .closed) ≡ false
   pub period-runs : (is k kind.AddedCustomer && leb (e .day + period) (r .day)) ≡ false
   pub uncorrected : ((is (kindOf (e .kind)) kind.Bill || is (kindOf (e .kind)) kind.Payment) && f .corrected) ≡ false
 
@@ -151,6 +152,7 @@ pass h r k e f b z =
       room = leb-false _ _ (late .1 .0);
       suited = late .1 .1 .0;
       deposit = late .1 .1 .1 .0;
+      unclosed = late .1 .1 .1 .1 .1 .0;
       period-runs = late .1 .1 .1 .1 .1 .1 .0;
       uncorrected = late .1 .1 .1 .1 .1 .1 .1 .1 .1 .1 .0;
     }
@@ -176,7 +178,7 @@ module _ (h : History) (r : Raw) where
     as-payment : kindOf (r .kind) ≡ kind.Payment → Sort
     as-deposit : kindOf (r .kind) ≡ kind.Deposit → balance h (r .account) .deposit ≡ 0 → r .a ≤ 2000 → Sort
     as-return : kindOf (r .kind) ≡ kind.DepositReturn → Sort
-    as-expiry : kindOf (r .kind) ≡ kind.Expiry → (i : ℕ) (e : Raw) → find h r ≡ found i e → kindOf (e .kind) ≡ kind.Contribution → Sort
+    as-expiry : kindOf (r .kind) ≡ kind.Expiry → (i : ℕ) (e : Raw) → find h r ≡ found i e → kindOf (e .kind) ≡ kind.Contribution → fate h e .closed ≡ false → Sort
     as-correction : kindOf (r .kind) ≡ kind.Correction → (i : ℕ) (e : Raw) → find h r ≡ found i e →
         (b : Bool) → kindOf (e .kind) ≡ cond b kind.Bill kind.Payment → fate h e .corrected ≡ false → Sort
 
@@ -226,10 +228,15 @@ module _ (h : History) (r : Raw) where
   added k (found i e) f p =
       as-added k i e f (is-contribution (kindOf (e .kind)) (p .suited)) (leb-false _ _ (p .period-runs))
 
+  unclosed : (l : Kind) (t : Bool) → l ≡ kind.Contribution → (is l kind.Contribution && t) ≡ false → t ≡ false
+  unclosed l t k e = rw k at e
+
   expired : kindOf (r .kind) ≡ kind.Expiry → (s : Sought) → find h r ≡ s →
       Passed h r kind.Expiry (entryIn s) (fateIn h s) (balance h (r .account)) → Sort h r
   expired k missing f p = absurd (true≢false (sym (rw no-kind) ∙ p .suited))
-  expired k (found i e) f p = as-expiry k i e f (is-contribution (kindOf (e .kind)) (p .suited))
+  expired k (found i e) f p =
+      let l = is-contribution (kindOf (e .kind)) (p .suited) in
+      as-expiry k i e f l (unclosed (kindOf (e .kind)) (fate h e .closed) l (p .unclosed))
 
   uncorrected : (b : Bool) (l : Kind) (t : Bool) → l ≡ cond b kind.Bill kind.Payment → ((is l kind.Bill || is l kind.Payment) && t) ≡ false → t ≡ false
   uncorrected true l t k e = rw k at e
@@ -265,5 +272,5 @@ module _ (h : History) (r : Raw) where
   role (as-payment k) = alone (ap naming k)
   role (as-deposit k n a) = alone (ap naming k)
   role (as-return k) = alone (ap naming k)
-  role (as-expiry k i e f c) = upon (ap naming k) i e f
+  role (as-expiry k i e f c o) = upon (ap naming k) i e f
   role (as-correction k i e f b c u) = upon (ap naming k) i e f

@@ -1,2 +1,4 @@
 pub mod Accept
 pub mod Names
+pub mod Moves
+pub mod Conserve

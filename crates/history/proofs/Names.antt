@@ -244,7 +244,7 @@ sort-period v c (as-bill q) k e m p = let z : _≡_ {A = ℕ} 0 1 = cc in absurd
 sort-period v c (as-payment q) k e m p = let z : _≡_ {A = ℕ} 0 1 = cc in absurd (omega arith)
 sort-period v c (as-deposit q n a) k e m p = let z : _≡_ {A = ℕ} 0 1 = cc in absurd (omega arith)
 sort-period v c (as-return q) k e m p = let z : _≡_ {A = ℕ} 0 1 = cc in absurd (omega arith)
-sort-period v c (as-expiry q i x f l) k e m p = let z : _≡_ {A = ℕ} 0 1 = cc in absurd (omega arith)
+sort-period v c (as-expiry q i x f l o) k e m p = let z : _≡_ {A = ℕ} 0 1 = cc in absurd (omega arith)
 sort-period v c (as-correction q i x f b l u) k e m p = let z : _≡_ {A = ℕ} 0 1 = cc in absurd (omega arith)
 
 pub in-period : {h : History} → Valid h → (c e : Raw) → In c h → In e h → kindOf (c .kind) ≡ kind.AddedCustomer → points c e ≡ true → c .day < e .day + period
@@ -296,7 +296,7 @@ once (joins {r = c} {h} v j) = (λ d m w. go (sorted h c j) d m w, once v)
     go (as-payment q) d m w = let z : _≡_ {A = ℕ} 0 1 = cc in omega arith
     go (as-deposit q n a) d m w = let z : _≡_ {A = ℕ} 0 1 = cc in omega arith
     go (as-return q) d m w = let z : _≡_ {A = ℕ} 0 1 = cc in omega arith
-    go (as-expiry q i x f l) d m w = let z : _≡_ {A = ℕ} 0 1 = cc in omega arith
+    go (as-expiry q i x f l o) d m w = let z : _≡_ {A = ℕ} 0 1 = cc in omega arith
     go (as-correction q i x f b l u) d m w =
         let p = pointed c x (hit v c i x f .aimed) in
         let same : Pointed d x = record { account = p .account ∙ w .account; node = p .node ∙ w .node; serial = p .serial ∙ w .serial } in
