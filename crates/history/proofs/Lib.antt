@@ -2,3 +2,4 @@ pub mod Accept
 pub mod Names
 pub mod Moves
 pub mod Conserve
+pub mod Bound
