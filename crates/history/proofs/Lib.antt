@@ -3,3 +3,4 @@ pub mod Names
 pub mod Moves
 pub mod Conserve
 pub mod Bound
+pub mod Tables
