@@ -4,3 +4,4 @@ pub mod Moves
 pub mod Conserve
 pub mod Bound
 pub mod Tables
+pub mod Search

@@ -125,8 +125,8 @@ pub record Seen (n : Named) (l : Kind) (x : Raw) (f : Fate) : Type 0 where
   pub of-kind : n .kind ≡ l
   pub closed : n .closed ≡ (is l kind.Contribution && f .closed)
   pub corrected : n .corrected ≡ ((is l kind.Bill || is l kind.Payment) && f .corrected)
-  pub phases : l ≡ kind.Contribution → n .phases ≡ x .b
-  pub built : l ≡ kind.Contribution → n .built .0 ≡ x .a
+  pub phases : cond (is l kind.Contribution) (n .phases) 0 ≡ cond (is l kind.Contribution) (x .b) 0
+  pub built : cond (is l kind.Contribution) (n .built .0) 0 ≡ cond (is l kind.Contribution) (x .a) 0
 
 module _ (h : History) (r : Raw) (k : Kind) (newest : ℕ) (b : Balance) (e : Entry) (x : Raw) (f : Fate) (on : e .day .0 ≡ x .day) (s : Seen (namedOf (e .«data»)) (kindOf (x .kind)) x f) where
   pub state-same : Same (stateRows r k (keptAccount b newest) e) (drop 7 (refusals h r k x f b))
@@ -137,8 +137,8 @@ module _ (h : History) (r : Raw) (k : Kind) (newest : ℕ) (b : Balance) (e : En
       (s .closed, refl, λ t.
       (ap (λ q. is k kind.AddedCustomer && q) (age-over (r .day) (e .day .0) ∙ ap (λ n. leb (n + period) (r .day)) on), refl, λ t.
       (ap (λ q. is k kind.Expiry && q) (age-below (r .day) (e .day .0) ∙ ap (λ n. ltb (r .day) (n + period)) on), refl, λ t.
-      (added-same k (kindOf (x .kind)) _ _ (λ l. ap (λ n. eqb (r .b) 1 && eqb n 3) (s .phases l)) suited, refl, λ t.
-      (added-same k (kindOf (x .kind)) _ _ (λ l. ap (λ n. ltb n (r .a)) (s .built l)) suited, refl, λ t.
+      (added-same k (kindOf (x .kind)) _ _ (λ l. ap (λ n. eqb (r .b) 1 && eqb n 3) (rw l at (s .phases))) suited, refl, λ t.
+      (added-same k (kindOf (x .kind)) _ _ (λ l. ap (λ n. ltb n (r .a)) (rw l at (s .built))) suited, refl, λ t.
       (s .corrected, refl, λ t. tt)))))))))
 
 -- the two tables as a whole
