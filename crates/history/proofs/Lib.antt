@@ -5,3 +5,4 @@ pub mod Conserve
 pub mod Bound
 pub mod Tables
 pub mod Search
+pub mod Effects
