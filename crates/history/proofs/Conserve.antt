@@ -33,7 +33,7 @@ module _ (f : Kind → Raw → Fate → ℕ) (c : Raw) (h : History) (a : ℕ) w
   total-hit (later {x} {g} n t) = rw (fate-miss c h x n) (omega (arith, total-hit t))
 
 -- a posted entry's fate, of a kind
-abbrev postedAs : Kind → Raw → Fate
+abbrev pub postedAs : Kind → Raw → Fate
 postedAs k e = record { held = e .amount; retained = 0; added = 0; closed = false; standing = firstStanding k e; corrected = false }
 
 -- the five sums over entries
@@ -267,9 +267,14 @@ module _ {h : History} (v : Valid h) (r : Raw) (j : judge h r ≡ 0) where
   divided-new : kindOf (r .kind) ≡ kind.Contribution → Divided (r ∷ h) r
   divided-new k =
       let fresh = accepts h r j .serial-above in
-      rw (fate-miss r h r (plain r r (ap naming k)), unnamed v r fresh,
-      customers-other (λ (x : Amounts). x .settled) r h r (ap (λ (l : Kind). is l kind.AddedCustomer) k), customers-other (λ (x : Amounts). x .paidOut) r h r (ap (λ (l : Kind). is l kind.AddedCustomer) k),
-      no-customers v (λ (x : Amounts). x .settled) r fresh, no-customers v (λ (x : Amounts). x .paidOut) r fresh)
+      rw (
+        fate-miss r h r (plain r r (ap naming k)),
+        unnamed v r fresh,
+        customers-other (λ (x : Amounts). x .settled) r h r (ap (λ (l : Kind). is l kind.AddedCustomer) k),
+        customers-other (λ (x : Amounts). x .paidOut) r h r (ap (λ (l : Kind). is l kind.AddedCustomer) k),
+        no-customers v (λ (x : Amounts). x .settled) r fresh,
+        no-customers v (λ (x : Amounts). x .paidOut) r fresh,
+      )
       (omega arith)
 
   divided-miss : (e : Raw) → names r e ≡ false → Divided h e → Divided (r ∷ h) e
@@ -286,8 +291,13 @@ module _ {h : History} (v : Valid h) (r : Raw) (j : judge h r ≡ 0) where
       let p = hit v r i e f .aimed in
       let b = balance h (r .account) in
       let x = refundOf r e (fate h e) in
-      rw (fate-hit r h e (names-points r e (ap naming k) p), customers-hit (λ (x : Amounts). x .settled) r h e k p, customers-hit (λ (x : Amounts). x .paidOut) r h e k p,
-      move-added h r b i e f k, k)
+      rw (
+        fate-hit r h e (names-points r e (ap naming k) p),
+        customers-hit (λ (x : Amounts). x .settled) r h e k p,
+        customers-hit (λ (x : Amounts). x .paidOut) r h e k p,
+        move-added h r b i e f k,
+        k,
+      )
       (n-refunded (e .amount) x (b .arrears) (toArrears h e) (refundsPaid h e) (fate h e .held) (fate h e .retained) l (omega arith))
 
   divided-expired : (e : Raw) → kindOf (r .kind) ≡ kind.Expiry → names r e ≡ true → fate h e .closed ≡ false → Divided h e → Divided (r ∷ h) e

@@ -119,8 +119,10 @@ module _ (r : Raw) (b : Balance) (newest : ℕ) (f : Found) (d : Data) where
       (changeBy (returns (interest (b .deposit) (b .rate) (r .day - b .deposited))) b newest (keptData kind.DepositReturn r (posted r) 0 0) Nothing data′.Unused)
   unfolding effectOf depositReturnOf creditedOf holdingOf
   return-effect p q t l =
-      rw (plain .deposit-return (b .deposit) (b .rate) (r .day - b .deposited) p q (omega arith),
-      fits (b .deposit + interest (b .deposit) (b .rate) (r .day - b .deposited)) l) refl
+      rw (
+        plain .deposit-return (b .deposit) (b .rate) (r .day - b .deposited) p q (omega arith),
+        fits (b .deposit + interest (b .deposit) (b .rate) (r .day - b .deposited)) l,
+      ) refl
 
   module _ (e : Raw) (g : Fate) (i s p : ℕ) where
     pub added-effect : (g′ : Fate) → e .amount ≤ amountMost → r .a ≤ 65535 → g .added < 65535 →
@@ -151,12 +153,16 @@ module _ (r : Raw) (b : Balance) (newest : ℕ) (f : Found) (d : Data) where
     unfolding effectOf correctionOf restatedOf namedOf
     bill-corrected g′ true t l m =
         let z : g .standing - r .amount ≡ 0 = omega (arith, leb-true (g .standing) (r .amount) t) in
-        rw (both-charge b newest (r .amount - g .standing) (g .standing - r .amount) z (omega arith) (omega arith),
-        settled-none b newest (r .amount - g .standing) (g .standing - r .amount) z) refl
+        rw (
+          both-charge b newest (r .amount - g .standing) (g .standing - r .amount) z (omega arith) (omega arith),
+          settled-none b newest (r .amount - g .standing) (g .standing - r .amount) z,
+        ) refl
     bill-corrected g′ false t l m =
         let z : r .amount - g .standing ≡ 0 = omega (arith, leb-false (g .standing) (r .amount) t) in
-        rw (both-credit b newest (r .amount - g .standing) (g .standing - r .amount) z (omega arith) (omega arith),
-        settled-some b newest (r .amount - g .standing) (g .standing - r .amount) z (omega arith)) refl
+        rw (
+          both-credit b newest (r .amount - g .standing) (g .standing - r .amount) z (omega arith) (omega arith),
+          settled-some b newest (r .amount - g .standing) (g .standing - r .amount) z (omega arith),
+        ) refl
 
     pub payment-corrected : (g′ : Fate) (o : Bool) → leb (r .amount) (g .standing) ≡ o → b .arrears + g .standing ≤ most → b .credit + r .amount ≤ most →
         effectOf r kind.Correction (keptAccount b newest) (At i) (keptData kind.Payment e g s p) ≡
@@ -166,9 +172,13 @@ module _ (r : Raw) (b : Balance) (newest : ℕ) (f : Found) (d : Data) where
     unfolding effectOf correctionOf restatedOf namedOf
     payment-corrected g′ true t l m =
         let z : r .amount - g .standing ≡ 0 = omega (arith, leb-true (r .amount) (g .standing) t) in
-        rw (both-charge b newest (g .standing - r .amount) (r .amount - g .standing) z (omega arith) (omega arith),
-        settled-none b newest (g .standing - r .amount) (r .amount - g .standing) z) refl
+        rw (
+          both-charge b newest (g .standing - r .amount) (r .amount - g .standing) z (omega arith) (omega arith),
+          settled-none b newest (g .standing - r .amount) (r .amount - g .standing) z,
+        ) refl
     payment-corrected g′ false t l m =
         let z : g .standing - r .amount ≡ 0 = omega (arith, leb-false (r .amount) (g .standing) t) in
-        rw (both-credit b newest (g .standing - r .amount) (r .amount - g .standing) z (omega arith) (omega arith),
-        settled-some b newest (g .standing - r .amount) (r .amount - g .standing) z (omega arith)) refl
+        rw (
+          both-credit b newest (g .standing - r .amount) (r .amount - g .standing) z (omega arith) (omega arith),
+          settled-some b newest (g .standing - r .amount) (r .amount - g .standing) z (omega arith),
+        ) refl

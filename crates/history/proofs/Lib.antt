@@ -6,3 +6,6 @@ pub mod Bound
 pub mod Tables
 pub mod Search
 pub mod Effects
+pub mod Stored
+pub mod Agree
+pub mod Lawful

@@ -130,16 +130,40 @@ pub record Seen (n : Named) (l : Kind) (x : Raw) (f : Fate) : Type 0 where
 
 module _ (h : History) (r : Raw) (k : Kind) (newest : ℕ) (b : Balance) (e : Entry) (x : Raw) (f : Fate) (on : e .day .0 ≡ x .day) (s : Seen (namedOf (e .«data»)) (kindOf (x .kind)) x f) where
   pub state-same : Same (stateRows r k (keptAccount b newest) e) (drop 7 (refusals h r k x f b))
-  state-same =
-      (rw (s .of-kind) (misnames-same k (kindOf (x .kind))), refl, λ suited.
-      (clash-same k (b .deposit), refl, λ t.
-      (ap (λ n. ltb (r .day) n) (before-same (is k kind.DepositReturn) (day (b .deposited)) (e .day) ∙ ap (λ n. cond (is k kind.DepositReturn) (b .deposited) n) on), refl, λ t.
-      (s .closed, refl, λ t.
-      (ap (λ q. is k kind.AddedCustomer && q) (age-over (r .day) (e .day .0) ∙ ap (λ n. leb (n + period) (r .day)) on), refl, λ t.
-      (ap (λ q. is k kind.Expiry && q) (age-below (r .day) (e .day .0) ∙ ap (λ n. ltb (r .day) (n + period)) on), refl, λ t.
-      (added-same k (kindOf (x .kind)) _ _ (λ l. ap (λ n. eqb (r .b) 1 && eqb n 3) (rw l at (s .phases))) suited, refl, λ t.
-      (added-same k (kindOf (x .kind)) _ _ (λ l. ap (λ n. ltb n (r .a)) (rw l at (s .built))) suited, refl, λ t.
-      (s .corrected, refl, λ t. tt)))))))))
+  state-same = (
+    rw (s .of-kind) (misnames-same k (kindOf (x .kind))),
+    refl,
+    λ suited. (
+      clash-same k (b .deposit),
+      refl,
+      λ t. (
+        ap (λ n. ltb (r .day) n) (before-same (is k kind.DepositReturn) (day (b .deposited)) (e .day) ∙ ap (λ n. cond (is k kind.DepositReturn) (b .deposited) n) on),
+        refl,
+        λ t. (
+          s .closed,
+          refl,
+          λ t. (
+            ap (λ q. is k kind.AddedCustomer && q) (age-over (r .day) (e .day .0) ∙ ap (λ n. leb (n + period) (r .day)) on),
+            refl,
+            λ t. (
+              ap (λ q. is k kind.Expiry && q) (age-below (r .day) (e .day .0) ∙ ap (λ n. ltb (r .day) (n + period)) on),
+              refl,
+              λ t. (
+                added-same k (kindOf (x .kind)) _ _ (λ l. ap (λ n. eqb (r .b) 1 && eqb n 3) (rw l at (s .phases))) suited,
+                refl,
+                λ t. (
+                  added-same k (kindOf (x .kind)) _ _ (λ l. ap (λ n. ltb n (r .a)) (rw l at (s .built))) suited,
+                  refl,
+                  λ t.
+                      (s .corrected, refl, λ t. tt),
+                ),
+              ),
+            ),
+          ),
+        ),
+      ),
+    ),
+  )
 
 -- the two tables as a whole
 module _ (h : History) (r : Raw) (k : Kind) (count last : ℕ) (acc : Account) (e : Entry) (x : Raw) (f : Fate) (b : Balance) (counted : count ≡ length h)
@@ -147,14 +171,32 @@ module _ (h : History) (r : Raw) (k : Kind) (count last : ℕ) (acc : Account) (
     (state : within (r .account) 1 128 ≡ true → Same (stateRows r k acc e) (drop 7 (refusals h r k x f b))) where
   all-same : Same (entryRows r k count last ++ stateRows r k acc e) (refusals h r k x f b)
   unfolding between
-  all-same =
-      (refl, refl, λ t.
-      (refl, refl, λ node.
-      (refl, refl, λ account.
-      (refl, refl, λ t.
-      (refl, refl, λ t.
-      (ap (λ n. leb (r .serial) n) (lasts (not-false _ node)), refl, λ t.
-      (ap (λ n. leb 1024 n) counted, refl, λ t. state (not-false _ account))))))))
+  all-same = (
+    refl,
+    refl,
+    λ t. (
+      refl,
+      refl,
+      λ node. (
+        refl,
+        refl,
+        λ account. (
+          refl,
+          refl,
+          λ t. (
+            refl,
+            refl,
+            λ t. (
+              ap (λ n. leb (r .serial) n) (lasts (not-false _ node)),
+              refl,
+              λ t.
+                  (ap (λ n. leb 1024 n) counted, refl, λ t. state (not-false _ account)),
+            ),
+          ),
+        ),
+      ),
+    ),
+  )
 
   pub check-same : checkNumber (checkStateOf (checkEntryOf r k count last) r k acc e) ≡ firstOf (refusals h r k x f b)
   unfolding checkStateOf checkEntryOf
