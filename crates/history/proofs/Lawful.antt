@@ -12,8 +12,8 @@ use Rattle.history.proofs.Names.{in-period, once}
 use Rattle.history.proofs.Conserve.{conserve, divide}
 use Rattle.history.proofs.Bound.{Bounded, bounded, added-small}
 
-pub laws : Laws
-laws h v =
+lawful : (h : History) → Valid h → Lawful h
+lawful h v =
     record {
       conserved = λ a. conserve v a;
       divided = λ e m c. divide v e m c;
@@ -38,3 +38,6 @@ pub valid-offers : {h : History} → Valid h → (rs : List Raw) → Valid (offe
 unfolding offers
 valid-offers v [] = v
 valid-offers v (r ∷ rs) = valid-offers (valid-offer v r) rs
+
+pub laws : Laws
+laws = record { valid = λ rs. valid-offers empty rs; lawful = lawful }

@@ -9,3 +9,4 @@ pub mod Effects
 pub mod Stored
 pub mod Agree
 pub mod Lawful
+pub mod Carry

@@ -2,8 +2,8 @@
 -- Nothing here reads a book. All numbers are plain ones: no sum stops at a limit.
 use Prim.Native.Nat.{ℕ, zero, suc, _+_, _-_}
 use mathlib.Core.Bool.{Bool, true, false, cond, not, _&&_, _||_}
-use mathlib.Core.List.{List, [], _∷_}
-use lib.ListN.{length}
+use mathlib.Core.List.{List, [], _∷_, _++_}
+use lib.ListN.{length, drop}
 use lib.Dec.{eqb, leb, ltb}
 use Rattle.entries.specs.Kinds.{numberOf, kindOf}
 use Rattle.entries.specs.Ranges.{inRangeOf}
@@ -333,6 +333,26 @@ repliedBy (suc n) number x =
 
 unfoldable pub repliedOf : History → Raw → Reply
 repliedOf h r = repliedBy (judge h r) (length h + 1) (amounts h r)
+
+-- CARRY-OVER
+-- each entry is offered in turn; its refusal number, or 0, goes to the same place of the result list
+unfoldable pub verdicts : History → List Raw → List ℕ
+verdicts h [] = []
+verdicts h (r ∷ rs) = judge h r ∷ verdicts (offer h r) rs
+
+-- 22: the result list is shorter than the entries, and none is offered
+abbrev pub tooShort : List Raw → List ℕ → Bool
+tooShort rs results = ltb (length results) (length rs)
+
+abbrev pub carryNumber : List Raw → List ℕ → ℕ
+carryNumber rs results = cond (tooShort rs results) 22 0
+
+abbrev pub carryOffers : History → List Raw → List ℕ → History
+carryOffers h rs results = cond (tooShort rs results) h (offers h rs)
+
+-- the result list after it; further places are unchanged
+abbrev pub carryVerdicts : History → List Raw → List ℕ → List ℕ
+carryVerdicts h rs results = cond (tooShort rs results) results (verdicts h rs ++ drop (length rs) results)
 
 -- SUMS
 -- over an account's entries, of what is read off each and its fate in the whole history, `all`

@@ -8,7 +8,7 @@ use Rattle.measures.specs.Cents.{most}
 use Rattle.entries.specs.Kinds.{kindOf}
 use Rattle.entries.specs.declared.raw.Raw.{Raw}
 use Rattle.entries.specs.declared.kinds.Kind.the-variants as kind
-use Rattle.history.specs.History.{History, Amounts, accounts, entries, period, points, Fate, fate, Balance, balance, judge, total, contributed, deposited, standingBill, standingPayment, heldOf, addedUp, toArrears, refundsPaid}
+use Rattle.history.specs.History.{History, Amounts, accounts, entries, period, points, Fate, fate, Balance, balance, judge, offers, total, contributed, deposited, standingBill, standingPayment, heldOf, addedUp, toArrears, refundsPaid}
 
 -- the histories that offers give: no refusal stopped any entry, read against those before it
 pub data Valid : History → Type 0 where
@@ -60,6 +60,8 @@ pub record Lawful (h : History) : Type 0 where
   pub credit : (a : ℕ) → balance h a .credit ≤ most
   pub added : (e : Raw) → fate h e .added < 65535
 
--- proofs/Claim.antt shows it
-abbrev pub Laws : Type 0
-Laws = (h : History) → Valid h → Lawful h
+-- proofs/Lawful.antt shows both
+pub record Laws : Type 0 where
+  -- offers give such a history, whatever is offered
+  pub valid : (rs : List Raw) → Valid (offers [] rs)
+  pub lawful : (h : History) → Valid h → Lawful h

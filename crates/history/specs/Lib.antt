@@ -1,3 +1,4 @@
 pub mod History
 pub mod Laws
 pub mod Agreement
+pub mod Carry
