@@ -4,7 +4,7 @@ use Prim.Native.Nat.{ℕ, zero, suc, _+_, _-_, _≤_, _<_}
 use native.Mathlib.Omega.{arith}
 use mathlib.Core.Bool.{Bool, true, false, cond, not, _&&_, _||_, true≢false, false≢true}
 use mathlib.Core.List.{List, [], _∷_}
-use lib.ListN.{length, getD}
+use lib.ListN.{length, getD, take}
 use lib.Dec.{eqb, leb, ltb}
 use borrow.Author.Tests.{eqb-true, eqb-false, ne-eqb, le-ltb, leb-true}
 use Rattle.entries.specs.Kinds.{kindOf, namesOf}
@@ -22,7 +22,7 @@ use Rattle.book.specs.declared.Book.{Book}
 use Rattle.book.proofs.Chain.{findIn-none, findIn-ends, findIn-hit, findIn-miss}
 use Rattle.history.specs.History.{History, accounts, entries, is, within, lastSerial, naming, points, Sought, missing, found, find, named, Fate, posted, fate, noRaw, entryIn, fateIn, Balance, balance}
 use Rattle.history.specs.Laws.{Valid}
-use Rattle.history.specs.Agreement.{newestOf, keptAccount, keptData, dataIn, keptEntry, Rows, start, more, Agrees}
+use Rattle.history.specs.Agreement.{newestOf, keptAccount, keptData, dataIn, keptEntry, linksOf, chainOf, Rows, start, more, Agrees}
 use Rattle.history.proofs.Accept.{and-left, and-right, fits}
 use Rattle.history.proofs.Tables.{Seen}
 
@@ -75,6 +75,34 @@ module _ (all : History) (es : List Entry) (c : Raw) where
   chain (more {e = r} {h} e rs) m f l =
       chain-step r h f (omega arith) e (λ g q. chain rs (omega arith) g q) (omega arith) (eqb (r .account) (c .account)) refl
       (eqb (r .node) (c .«named_node») && eqb (r .serial) (c .«named_serial»)) refl
+
+-- the chain as a list
+links-end : (es : List Entry) (most : ℕ) → linksOf es most 0 ≡ take most []
+unfolding linksOf
+links-end es zero = refl
+links-end es (suc most) = rw ends-zero refl
+
+links-next : (es : List Entry) (most at : ℕ) (e : Entry) → endsOf at ≡ false → getD es (at - 1) noEntry ≡ e →
+    linksOf es (suc most) at ≡ e ∷ linksOf es most (e .next)
+unfolding linksOf
+links-next es most at e t q = rw (t, q) refl
+
+module _ (all : History) (es : List Entry) (a : ℕ) where
+  links-step : (r : Raw) (h : History) (most : ℕ) → length h < entries → getD es (length h) noEntry ≡ keptEntry all h r →
+      ((n : ℕ) → linksOf es n (newestOf h a) ≡ take n (chainOf all h a)) → (t : Bool) → eqb (r .account) a ≡ t →
+      linksOf es most (cond t (length h + 1) (newestOf h a)) ≡ take most (cond t (keptEntry all h r ∷ chainOf all h a) (chainOf all h a))
+  unfolding linksOf
+  links-step r h zero m e ih true p = refl
+  links-step r h (suc n) m e ih true p =
+      links-next es n (length h + 1) (keptEntry all h r) (goes-on (length h) m) (ap (λ k. getD es k noEntry) (one-less (length h)) ∙ e) ∙
+      ap (λ k. keptEntry all h r ∷ linksOf es n k) (next-kept r all h ∙ ap (λ x. newestOf h x) (eqb-true (r .account) a p)) ∙
+      ap (λ l. keptEntry all h r ∷ l) (ih n)
+  links-step r h most m e ih false p = ih most
+
+  pub links : {h : History} → Rows all es h → length h ≤ entries → (most : ℕ) → linksOf es most (newestOf h a) ≡ take most (chainOf all h a)
+  unfolding newestOf chainOf
+  links start m most = links-end es most
+  links (more {e = r} {h} e rs) m most = links-step r h most (omega arith) e (λ n. links rs (omega arith) n) (eqb (r .account) a) refl
 
 -- what is found, as the book keeps it
 pub kept-found : (all : History) (es : List Entry) {h : History} → Rows all es h → (c : Raw) (i : ℕ) (e : Raw) → find h c ≡ found i e →

@@ -4,7 +4,6 @@ use mathlib.Core.Path.{_≡_}
 use mathlib.Core.Bool.{Bool, true}
 use mathlib.Core.List.{List, [], _∷_}
 use lib.ListN.{length}
-use Rattle.measures.specs.Cents.{most}
 use Rattle.entries.specs.Kinds.{kindOf}
 use Rattle.entries.specs.declared.raw.Raw.{Raw}
 use Rattle.entries.specs.declared.kinds.Kind.the-variants as kind
@@ -54,11 +53,11 @@ pub record Lawful (h : History) : Type 0 where
   -- no added customer is dated 1,826 days or more after its contribution
   pub in-period : (c e : Raw) → In c h → In e h → kindOf (c .kind) ≡ kind.AddedCustomer → points c e ≡ true → c .day < e .day + period
   pub once : Once h
-  -- and no number comes near a limit: entries, an account's amounts, customers added to an entry
+  -- and no number comes near a limit of the book's: entries 1,024, amounts 2^64 - 1, customers added to an entry 65,535
   pub room : length h ≤ entries
-  pub arrears : (a : ℕ) → balance h a .arrears ≤ most
-  pub credit : (a : ℕ) → balance h a .credit ≤ most
-  pub added : (e : Raw) → fate h e .added < 65535
+  pub arrears : (a : ℕ) → balance h a .arrears ≤ 1024000000000000
+  pub credit : (a : ℕ) → balance h a .credit ≤ 1024000000000000
+  pub added : (e : Raw) → fate h e .added ≤ entries
 
 -- proofs/Lawful.antt shows both
 pub record Laws : Type 0 where
