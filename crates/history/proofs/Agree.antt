@@ -2,15 +2,13 @@
 use mathlib.Core.Path.{_≡_, refl, sym, ap, _∙_, subst}
 use Prim.Native.Nat.{ℕ, zero, suc, _+_, _-_, _≤_, _<_}
 use native.Mathlib.Omega.{arith}
-use mathlib.Core.Bool.{Bool, true, false, cond, not, _&&_, _||_, true≢false, false≢true}
+use mathlib.Core.Bool.{Bool, true, false, cond}
 use mathlib.Core.List.{List, [], _∷_}
 use lib.ListN.{length, getD, take, set, length-set, length-replicate, getD-replicate}
 use lib.Seq.{getD-set-same, getD-set-other}
-use lib.Dec.{eqb, leb, ltb}
-use borrow.Author.Tests.{eqb-true, eqb-false, eq-eqb, ne-eqb, le-leb, leb-true}
-use Rattle.measures.specs.Cents.{most}
+use lib.Dec.{eqb, leb}
+use borrow.Author.Tests.{eqb-true, eqb-false, eq-eqb, le-leb, leb-true}
 use Rattle.entries.specs.Kinds.{kindOf}
-use Rattle.entries.specs.Ranges.{amountMost}
 use Rattle.entries.specs.Refusals.{refusalNumber}
 use Rattle.entries.specs.Entries.{noEntry, entryOf, withOf}
 use Rattle.entries.specs.declared.raw.Raw.{Raw}
@@ -26,7 +24,7 @@ use Rattle.entries.specs.declared.refusals.Check.the-variants as check
 use Rattle.rules.specs.Formulas.{billed, interest}
 use Rattle.rules.specs.Accounts.{noAccount, numberedOf}
 use Rattle.rules.specs.Answers.{replyOf}
-use Rattle.rules.specs.Checks.{stateRows, checkStateOf}
+use Rattle.rules.specs.Checks.{checkStateOf}
 use Rattle.rules.specs.Changes.{effectOf, answerOf}
 use Rattle.rules.specs.declared.accounts.Account.{Account}
 use Rattle.rules.specs.declared.changes.Found.{Found}
@@ -38,20 +36,20 @@ use Rattle.book.specs.Fresh.{freshBook}
 use Rattle.book.specs.Serials.{lastOf, afterOf}
 use Rattle.book.specs.Chain.{slotOf, entryAt}
 use Rattle.book.specs.Refusals.{checkEntryOf, decidedOf, outcomeOf}
-use Rattle.book.specs.Posting.{accountAt, lookupOf, namedAt, rewritten, storedOf, bookAfter, decisionOf, Result, postOf}
+use Rattle.book.specs.Posting.{accountAt, lookupOf, namedAt, rewritten, storedOf, bookAfter, decisionOf, postOf}
 use Rattle.book.specs.declared.Book.{Book}
 use Rattle.book.specs.declared.Serials.{Serials}
-use Rattle.history.specs.History.{History, accounts, entries, is, within, lastSerial, naming, points, names, Sought, missing, found, find, named, Fate, firstStanding, posted, refundOf, change, fate, entryIn, fateIn, Balance, Move, stays, charges, credits, refunds, deposits, returns, retains, restates, moved, moveBy, balance, Amounts, answered, amounts, refusals, judge, joined, offer, repliedBy, repliedOf, toArrears, refundsPaid}
-use Rattle.history.specs.Laws.{Valid, empty, joins, In, newest, older, Divided}
+use Rattle.history.specs.History.{History, accounts, entries, is, within, lastSerial, naming, names, Sought, missing, found, find, named, posted, refundOf, change, fate, entryIn, fateIn, Balance, Move, stays, charges, credits, refunds, deposits, returns, retains, restates, moved, moveBy, balance, Amounts, answered, amounts, judge, joined, offer, repliedBy, repliedOf, toArrears, refundsPaid}
+use Rattle.history.specs.Laws.{Valid, empty, joins, newest}
 use Rattle.history.specs.Agreement.{newestOf, keptAccount, keptData, dataIn, keptEntry, linksOf, chainOf, Rows, start, more, Agrees, Kept, Agreement}
-use Rattle.history.proofs.Accept.{and-left, and-right, accepts, fits, named-find, named-none, InRange, Sort, as-contribution, as-added, as-bill, as-payment, as-deposit, as-return, as-expiry, as-correction, sorted, Role, alone, upon, role}
-use Rattle.history.proofs.Names.{Hit, hit, unnamed, no-customers, plain, misses-kind, hits, names-points, fate-miss, fate-hit, customers-miss, customers-hit, customers-other}
+use Rattle.history.proofs.Accept.{and-left, and-right, accepts, fits, named-none, Sort, as-contribution, as-added, as-bill, as-payment, as-deposit, as-return, as-expiry, as-correction, sorted, Role, alone, upon, role}
+use Rattle.history.proofs.Names.{hit, unnamed, no-customers, plain, misses-kind, hits, names-points, fate-miss, fate-hit, customers-miss, customers-hit, customers-other}
 use Rattle.history.proofs.Moves.{named-at, move-contribution, move-bill, move-payment, move-deposit, move-return, move-added, move-expiry, move-bill-correction, move-payment-correction}
 use Rattle.history.proofs.Conserve.{postedAs, divide}
-use Rattle.history.proofs.Bound.{large, in-ranges, billed-small, interest-small, added-small, standing-small, Bounded, bounded}
-use Rattle.history.proofs.Tables.{checkNumber, Same, state-same, check-same}
-use Rattle.history.proofs.Search.{placeOf, links, kept-found, lookup-same, Alike, alike, last-same}
-use Rattle.history.proofs.Effects.{keptAmounts, changeBy, contribution-effect, bill-effect, payment-effect, deposit-effect, return-effect, added-effect, expiry-effect, bill-corrected, payment-corrected}
+use Rattle.history.proofs.Bound.{in-ranges, billed-small, interest-small, added-small, standing-small, bounded}
+use Rattle.history.proofs.Tables.{checkNumber, state-same, check-same}
+use Rattle.history.proofs.Search.{placeOf, links, kept-found, lookup-same, alike, last-same}
+use Rattle.history.proofs.Effects.{changeBy, contribution-effect, bill-effect, payment-effect, deposit-effect, return-effect, added-effect, expiry-effect, bill-corrected, payment-corrected}
 use Rattle.history.proofs.Stored.{slot-at, rows-past, rows-miss, rows-hit}
 
 -- THE REFUSAL

@@ -1,23 +1,22 @@
 -- How large the numbers of a history can grow: far below the limits of the book's sums.
-use mathlib.Core.Path.{_≡_, refl, sym, ap, _∙_, subst}
-use Prim.Native.Nat.{ℕ, zero, suc, _+_, _-_, _*_, _/_, _≤_, _<_}
+use mathlib.Core.Path.{_≡_, subst}
+use Prim.Native.Nat.{ℕ, suc, _+_, _-_, _*_, _≤_}
 use native.Mathlib.Omega.{arith}
 use native.Mathlib.Nat.{mul-le-mul, div-le-self}
 use mathlib.Core.Bool.{Bool, true, false, cond}
-use mathlib.Core.List.{List, [], _∷_}
+use mathlib.Core.List.{[], _∷_}
 use lib.ListN.{length}
 use lib.Dec.{eqb, leb}
-use borrow.Author.Tests.{eqb-true}
 use Rattle.entries.specs.Kinds.{kindOf}
 use Rattle.entries.specs.Ranges.{amountMost}
 use Rattle.entries.specs.declared.raw.Raw.{Raw}
 use Rattle.entries.specs.declared.kinds.Kind.{Kind}
 use Rattle.entries.specs.declared.kinds.Kind.the-variants as kind
 use Rattle.rules.specs.Formulas.{billed, interest}
-use Rattle.history.specs.History.{History, lastDay, entries, is, names, Sought, found, find, Fate, firstStanding, posted, change, fate, Balance, Move, stays, charges, credits, refunds, deposits, returns, retains, restates, moved, moveBy, balance, judge}
+use Rattle.history.specs.History.{History, lastDay, is, names, Fate, change, fate, Balance, Move, stays, charges, credits, refunds, deposits, returns, retains, moved, moveBy, balance, judge}
 use Rattle.history.specs.Laws.{Valid, empty, joins, In, newest, older}
 use Rattle.history.proofs.Accept.{InRange, accepts, Sort, as-contribution, as-added, as-bill, as-payment, as-deposit, as-return, as-expiry, as-correction, sorted}
-use Rattle.history.proofs.Names.{Hit, hit}
+use Rattle.history.proofs.Names.{hit}
 use Rattle.history.proofs.Moves.{move-contribution, move-bill, move-payment, move-deposit, move-return, move-added, move-expiry, move-bill-correction, move-payment-correction}
 
 -- more than one entry can move

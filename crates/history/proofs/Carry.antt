@@ -2,14 +2,13 @@
 use Prim.Native.Nat.{ℕ, zero, suc}
 use mathlib.Core.Path.{_≡_, refl, ap, ap₂, _∙_}
 use mathlib.Core.Bool.{Bool, true, false, cond}
-use mathlib.Core.List.{List, [], _∷_, _++_}
-use lib.ListN.{length, drop}
+use mathlib.Core.List.{List, [], _∷_}
 use Rattle.entries.specs.declared.raw.Raw.{Raw}
 use Rattle.rules.specs.declared.answers.Reply.{Reply}
 use Rattle.book.specs.Posting.{postOf}
 use Rattle.book.specs.declared.Book.{Book}
-use Rattle.history.specs.History.{History, Amounts, judge, offer, offers, repliedBy, repliedOf, verdicts, tooShort, carryOffers}
-use Rattle.history.specs.Agreement.{Kept, Agreement}
+use Rattle.history.specs.History.{History, Amounts, judge, offer, offers, repliedBy, repliedOf, verdicts, tooShort}
+use Rattle.history.specs.Agreement.{Kept}
 use Rattle.history.specs.Carry.{postsOf, refusalsOf, carryRefusalOf, carryBookOf, carryResultsOf, CarryAgreement}
 use Rattle.history.proofs.Agree.{agreement}
 

@@ -1,37 +1,32 @@
 -- What an entry of each kind does in the book is what it does in the history, where no sum reaches a limit.
-use mathlib.Core.Path.{_≡_, refl, sym, ap, _∙_}
-use Prim.Native.Nat.{ℕ, zero, suc, _+_, _-_, _*_, min, _≤_, _<_}
+use mathlib.Core.Path.{_≡_, refl, ap}
+use Prim.Native.Nat.{ℕ, _+_, _-_, min, _≤_, _<_}
 use native.Mathlib.Omega.{arith}
 use native.Mathlib.Nat.{min-eq-left}
 use mathlib.Core.Bool.{Bool, true, false, cond}
 use lib.Dec.{leb}
 use borrow.Author.Tests.{leb-true, leb-false}
-use Rattle.measures.specs.Cents.{cents, most, plusOf, minusOf}
+use Rattle.measures.specs.Cents.{cents, most}
 use Rattle.measures.specs.Days.{day}
-use Rattle.measures.specs.declared.Cents.{Cents}
 use Rattle.entries.specs.Ranges.{amountMost}
 use Rattle.entries.specs.Entries.{metres, namedOf, refundedOf, expiredOf, restatedOf}
 use Rattle.entries.specs.declared.raw.Raw.{Raw}
-use Rattle.entries.specs.declared.kinds.Kind.{Kind}
 use Rattle.entries.specs.declared.kinds.Kind.the-variants as kind
 use Rattle.entries.specs.declared.data.Data.{Data}
 use Rattle.entries.specs.declared.data.Data.the-variants as data′
 use Rattle.rules.specs.Moves.{settles, leaves, covers, owes}
-use Rattle.rules.specs.Formulas.{billed, refund, interest, billedOf, interestOf}
-use Rattle.rules.specs.Formulas as formulas
+use Rattle.rules.specs.Formulas.{billed, interest}
 use Rattle.rules.specs.Accounts.{accountOf, creditedOf, keptOf, chargedOf, holdingOf}
 use Rattle.rules.specs.Answers.{amountsOf}
 use Rattle.rules.specs.Changes.{changeOf, contributionOf, addedCustomerOf, billOf, paymentOf, depositOf, depositReturnOf, expiryOf, correctionOf, effectOf}
-use Rattle.rules.specs.declared.accounts.Account.{Account}
 use Rattle.rules.specs.declared.accounts.Credited.{Credited}
 use Rattle.rules.specs.declared.answers.Amounts as four′
 use Rattle.rules.specs.declared.changes.Found.{Found}
 use Rattle.rules.specs.declared.changes.Found.the-variants.{At, Nothing}
 use Rattle.rules.specs.declared.changes.Change.{Change}
-use Rattle.rules.specs.declared.changes.Outcome.{Outcome}
-use Rattle.rules.specs.declared.changes.Outcome.the-variants.{Refused, Accepted}
+use Rattle.rules.specs.declared.changes.Outcome.the-variants.{Accepted}
 use Rattle.rules.proofs.Plain.{plain}
-use Rattle.history.specs.History.{lastDay, Fate, firstStanding, posted, refundOf, refunded, expired, restated, Balance, Move, stays, charges, credits, refunds, deposits, returns, retains, restates, moved, Amounts, answered}
+use Rattle.history.specs.History.{lastDay, Fate, posted, refundOf, refunded, expired, restated, Balance, Move, stays, charges, credits, refunds, deposits, returns, retains, moved, Amounts, answered}
 use Rattle.history.specs.Agreement.{keptAccount, keptData}
 
 abbrev pub keptAmounts : Amounts → four′.Amounts

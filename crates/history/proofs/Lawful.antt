@@ -1,16 +1,15 @@
 -- The laws of every history that offers give.
-use Prim.Native.Nat.{ℕ, zero, suc, _+_, _*_, _≤_, _<_}
+use Prim.Native.Nat.{ℕ, zero, suc}
 use mathlib.Core.Path.{_≡_, refl}
 use mathlib.Core.List.{List, [], _∷_}
 use native.Mathlib.Omega.{arith}
-use lib.ListN.{length}
 use Rattle.entries.specs.declared.raw.Raw.{Raw}
 use Rattle.history.specs.History.{History, judge, joined, offer, offers}
 use Rattle.history.specs.Laws.{Valid, empty, joins, Lawful, Laws}
 use Rattle.history.proofs.Accept.{fits}
 use Rattle.history.proofs.Names.{in-period, once}
 use Rattle.history.proofs.Conserve.{conserve, divide}
-use Rattle.history.proofs.Bound.{Bounded, bounded, added-small}
+use Rattle.history.proofs.Bound.{bounded, added-small}
 
 lawful : (h : History) → Valid h → Lawful h
 lawful h v =

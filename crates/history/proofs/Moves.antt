@@ -1,12 +1,12 @@
 -- The move of an accepted entry of each kind.
-use mathlib.Core.Path.{_≡_, refl, ap}
+use mathlib.Core.Path.{_≡_, ap}
 use Prim.Native.Nat.{ℕ, _-_}
-use mathlib.Core.Bool.{Bool, true, false, cond}
+use mathlib.Core.Bool.{true}
 use Rattle.entries.specs.Kinds.{kindOf}
 use Rattle.entries.specs.declared.raw.Raw.{Raw}
 use Rattle.entries.specs.declared.kinds.Kind.the-variants as kind
 use Rattle.rules.specs.Formulas.{billed, interest}
-use Rattle.history.specs.History.{History, naming, Sought, found, find, named, Fate, fate, refundOf, Balance, Move, stays, charges, credits, refunds, deposits, returns, retains, restates, moveBy}
+use Rattle.history.specs.History.{History, naming, found, find, named, fate, refundOf, Balance, stays, charges, credits, refunds, deposits, returns, retains, restates, moveBy}
 use Rattle.history.proofs.Accept.{named-find}
 
 module _ (h : History) (r : Raw) (b : Balance) where

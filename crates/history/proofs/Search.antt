@@ -1,11 +1,11 @@
 -- A search along the book's chain finds what the history's search finds.
-use mathlib.Core.Path.{_≡_, refl, sym, ap, _∙_, subst}
+use mathlib.Core.Path.{_≡_, refl, sym, ap, _∙_}
 use Prim.Native.Nat.{ℕ, zero, suc, _+_, _-_, _≤_, _<_}
 use native.Mathlib.Omega.{arith}
-use mathlib.Core.Bool.{Bool, true, false, cond, not, _&&_, _||_, true≢false, false≢true}
+use mathlib.Core.Bool.{Bool, true, false, cond, _&&_}
 use mathlib.Core.List.{List, [], _∷_}
 use lib.ListN.{length, getD, take}
-use lib.Dec.{eqb, leb, ltb}
+use lib.Dec.{eqb, leb}
 use borrow.Author.Tests.{eqb-true, eqb-false, ne-eqb, le-ltb, leb-true}
 use Rattle.entries.specs.Kinds.{kindOf, namesOf}
 use Rattle.entries.specs.Entries.{noEntry, entryOf, pointsAt, namedOf}
@@ -16,14 +16,13 @@ use Rattle.entries.specs.declared.data.Entry.{Entry}
 use Rattle.rules.specs.declared.changes.Found.{Found}
 use Rattle.rules.specs.declared.changes.Found.the-variants.{At, Nothing}
 use Rattle.book.specs.Serials.{lastOf}
-use Rattle.book.specs.Chain.{slotOf, endsOf, startOf, findIn, entryAt}
-use Rattle.book.specs.Posting.{accountAt, lookupOf, namedAt}
+use Rattle.book.specs.Chain.{endsOf, startOf, findIn, entryAt}
+use Rattle.book.specs.Posting.{lookupOf, namedAt}
 use Rattle.book.specs.declared.Book.{Book}
 use Rattle.book.proofs.Chain.{findIn-none, findIn-ends, findIn-hit, findIn-miss}
-use Rattle.history.specs.History.{History, accounts, entries, is, within, lastSerial, naming, points, Sought, missing, found, find, named, Fate, posted, fate, noRaw, entryIn, fateIn, Balance, balance}
-use Rattle.history.specs.Laws.{Valid}
-use Rattle.history.specs.Agreement.{newestOf, keptAccount, keptData, dataIn, keptEntry, linksOf, chainOf, Rows, start, more, Agrees}
-use Rattle.history.proofs.Accept.{and-left, and-right, fits}
+use Rattle.history.specs.History.{History, accounts, entries, is, within, lastSerial, naming, points, Sought, missing, found, find, named, Fate, posted, fate, noRaw, entryIn, fateIn}
+use Rattle.history.specs.Agreement.{newestOf, keptData, keptEntry, linksOf, chainOf, Rows, start, more, Agrees}
+use Rattle.history.proofs.Accept.{and-left, and-right}
 use Rattle.history.proofs.Tables.{Seen}
 
 abbrev pub placeOf : Sought → Found

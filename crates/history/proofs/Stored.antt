@@ -1,20 +1,18 @@
 -- The stores of an accepted entry: the rows and the accounts of the next book.
-use mathlib.Core.Path.{_≡_, refl, sym, ap, _∙_, subst}
-use Prim.Native.Nat.{ℕ, zero, suc, _+_, _-_, _≤_, _<_}
+use mathlib.Core.Path.{_≡_, refl, sym, ap, _∙_}
+use Prim.Native.Nat.{ℕ, _-_, _≤_, _<_}
 use native.Mathlib.Omega.{arith}
-use mathlib.Core.Bool.{Bool, true, false, cond}
-use mathlib.Core.List.{List, [], _∷_}
-use lib.ListN.{length, getD, set, length-set}
+use mathlib.Core.Bool.{false}
+use mathlib.Core.List.{List, _∷_}
+use lib.ListN.{length, getD, set}
 use lib.Seq.{getD-set-same, getD-set-other}
-use lib.Dec.{eqb, ltb}
-use borrow.Author.Tests.{eqb-true, eqb-false, ne-eqb, le-ltb}
-use Rattle.entries.specs.Kinds.{kindOf}
+use borrow.Author.Tests.{ne-eqb, le-ltb}
 use Rattle.entries.specs.Entries.{noEntry, entryOf, withOf}
 use Rattle.entries.specs.declared.raw.Raw.{Raw}
 use Rattle.entries.specs.declared.data.Entry.{Entry}
 use Rattle.entries.specs.declared.data.Data.{Data}
 use Rattle.book.specs.Chain.{slotOf}
-use Rattle.history.specs.History.{History, accounts, names, Amounts, fate}
+use Rattle.history.specs.History.{History, accounts, names, Amounts}
 use Rattle.history.specs.Agreement.{newestOf, dataIn, keptEntry, Rows, start, more}
 use Rattle.history.proofs.Names.{Misses, none, miss, Hits, first, later, fate-miss, customers-miss}
 

@@ -1,16 +1,16 @@
 -- The book's table of refusals and the history's stop an entry by the same number.
 use mathlib.Core.Path.{_≡_, refl, sym, ap, _∙_}
-use Prim.Native.Nat.{ℕ, zero, suc, _+_, _-_, _≤_, _<_}
+use Prim.Native.Nat.{ℕ, _+_, _-_}
 use native.Mathlib.Omega.{arith}
-use mathlib.Core.Bool.{Bool, true, false, cond, not, _&&_, _||_, true≢false}
+use mathlib.Core.Bool.{Bool, true, false, cond, not, _&&_, _||_}
 use mathlib.Core.List.{List, [], _∷_, _++_}
 use lib.ListN.{length, drop}
 use lib.Dec.{eqb, leb, ltb}
 use borrow.Author.Tests.{ltb-true, ltb-false, leb-true, leb-false, le-leb, lt-leb, lt-ltb, le-ltb, not-false}
 use Rattle.measures.specs.Cents.{cents}
 use Rattle.measures.specs.Days.{day}
-use Rattle.entries.specs.Kinds.{sameOf, kindOf, misnamesOf}
-use Rattle.entries.specs.Ranges.{between, inRangeOf}
+use Rattle.entries.specs.Kinds.{kindOf, misnamesOf}
+use Rattle.entries.specs.Ranges.{between}
 use Rattle.entries.specs.Refusals.{refusalNumber, ruleOf}
 use Rattle.entries.specs.Refusals as checks
 use Rattle.entries.specs.Entries.{namedOf}
@@ -26,7 +26,7 @@ use Rattle.measures.specs.declared.Day.{Day}
 use Rattle.rules.specs.Checks.{depositClash, stateRows, checkStateOf, refundPeriod}
 use Rattle.rules.specs.declared.accounts.Account.{Account}
 use Rattle.book.specs.Refusals.{entryRows, checkEntryOf}
-use Rattle.history.specs.History.{History, is, naming, suits, period, lastSerial, Fate, Balance, Row, _⇒_, firstOf, within, refusals}
+use Rattle.history.specs.History.{History, is, naming, suits, period, lastSerial, Fate, Balance, Row, firstOf, within, refusals}
 use Rattle.history.specs.Agreement.{keptAccount}
 use Rattle.history.proofs.Accept.{is-contribution}
 

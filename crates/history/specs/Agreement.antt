@@ -19,7 +19,7 @@ use Rattle.rules.specs.Accounts.{accountOf}
 use Rattle.rules.specs.declared.accounts.Account.{Account}
 use Rattle.book.specs.Fresh.{freshBook}
 use Rattle.book.specs.Chain.{endsOf}
-use Rattle.book.specs.Posting.{Result, accountAt, postOf}
+use Rattle.book.specs.Posting.{accountAt, postOf}
 use Rattle.book.specs.declared.Book.{Book}
 use Rattle.history.specs.History.{History, lastSerial, Fate, fate, Balance, balance, accounts, entries, toArrears, refundsPaid, offer, repliedOf}
 use Rattle.history.specs.Laws.{Valid}

@@ -6,8 +6,7 @@ use mathlib.Core.List.{List, [], _∷_, _++_}
 use lib.ListN.{length, drop}
 use lib.Dec.{ltb}
 use Rattle.entries.specs.declared.raw.Raw.{Raw}
-use Rattle.rules.specs.declared.answers.Reply.{Reply}
-use Rattle.book.specs.Posting.{Result, postOf}
+use Rattle.book.specs.Posting.{postOf}
 use Rattle.book.specs.declared.Book.{Book}
 use Rattle.history.specs.History.{History, carryNumber, carryOffers, carryVerdicts}
 use Rattle.history.specs.Agreement.{Kept}
