@@ -4,8 +4,8 @@ use Prim.Native.Nat.{ℕ, zero, suc, _+_, _-_, _≤_, _<_}
 use native.Mathlib.Omega.{arith}
 use mathlib.Core.Bool.{Bool, true, false, cond}
 use mathlib.Core.List.{List, [], _∷_}
-use lib.ListN.{length, getD, take, set, length-set, length-replicate, getD-replicate}
-use lib.Seq.{getD-set-same, getD-set-other}
+use lib.ListN.{length, getD, set, length-set, length-replicate, getD-replicate}
+use lib.Seq.{take-all, getD-set-same, getD-set-other}
 use lib.Dec.{eqb, leb}
 use borrow.Author.Tests.{eqb-true, eqb-false, eq-eqb, le-leb, leb-true}
 use Rattle.entries.specs.Kinds.{kindOf}
@@ -39,16 +39,17 @@ use Rattle.book.specs.Refusals.{checkEntryOf, decidedOf, outcomeOf}
 use Rattle.book.specs.Posting.{accountAt, lookupOf, namedAt, rewritten, storedOf, bookAfter, decisionOf, postOf}
 use Rattle.book.specs.declared.Book.{Book}
 use Rattle.book.specs.declared.Serials.{Serials}
+use Rattle.queries.specs.Chain.{chainAt}
 use Rattle.history.specs.History.{History, accounts, entries, is, within, lastSerial, naming, names, Sought, missing, found, find, named, posted, refundOf, change, fate, entryIn, fateIn, Balance, Move, stays, charges, credits, refunds, deposits, returns, retains, restates, moved, moveBy, balance, Amounts, answered, amounts, judge, joined, offer, repliedBy, repliedOf, toArrears, refundsPaid}
 use Rattle.history.specs.Laws.{Valid, empty, joins, newest}
-use Rattle.history.specs.Agreement.{newestOf, keptAccount, keptData, dataIn, keptEntry, linksOf, chainOf, Rows, start, more, Agrees, Kept, Agreement}
+use Rattle.history.specs.Agreement.{newestOf, keptAccount, keptData, dataIn, keptEntry, keptChain, Rows, start, more, Agrees, Kept, Agreement}
 use Rattle.history.proofs.Accept.{and-left, and-right, accepts, fits, named-none, Sort, as-contribution, as-added, as-bill, as-payment, as-deposit, as-return, as-expiry, as-correction, sorted, Role, alone, upon, role}
 use Rattle.history.proofs.Names.{hit, unnamed, no-customers, plain, misses-kind, hits, names-points, fate-miss, fate-hit, customers-miss, customers-hit, customers-other}
 use Rattle.history.proofs.Moves.{named-at, move-contribution, move-bill, move-payment, move-deposit, move-return, move-added, move-expiry, move-bill-correction, move-payment-correction}
 use Rattle.history.proofs.Conserve.{postedAs, divide}
 use Rattle.history.proofs.Bound.{in-ranges, billed-small, interest-small, added-small, standing-small, bounded}
 use Rattle.history.proofs.Tables.{checkNumber, state-same, check-same}
-use Rattle.history.proofs.Search.{placeOf, links, kept-found, lookup-same, alike, last-same}
+use Rattle.history.proofs.Search.{placeOf, links, chain-short, kept-found, lookup-same, alike, last-same}
 use Rattle.history.proofs.Effects.{changeBy, contribution-effect, bill-effect, payment-effect, deposit-effect, return-effect, added-effect, expiry-effect, bill-corrected, payment-corrected}
 use Rattle.history.proofs.Stored.{slot-at, rows-past, rows-miss, rows-hit}
 
@@ -386,8 +387,10 @@ module _ (b : Book) (h : History) (w : Kept b h) (r : Raw) where
       go zero j = rw (decision (w .agrees) (w .valid) r j) (record { agrees = agree-step (w .agrees) (w .valid) r j; valid = joins (w .valid) j })
       go (suc n) j = rw (decision-refused (w .agrees) (w .valid) r n j .1) w
 
-chain : (b : Book) (h : History) → Kept b h → (a : ℕ) → 1 ≤ a → a ≤ accounts → (n : ℕ) → linksOf (b .entries) n (accountAt b a .newest) ≡ take n (chainOf h h a)
-chain b h w a l m n = rw (w .agrees .account a l m) (links h (b .entries) a (w .agrees .rows) (fits (w .valid)) n)
+chain : (b : Book) (h : History) → Kept b h → (a : ℕ) → 1 ≤ a → a ≤ accounts → chainAt b a ≡ keptChain h h a
+chain b h w a l m =
+    rw (w .agrees .account a l m)
+    (links h (b .entries) a (w .agrees .rows) (fits (w .valid)) entries ∙ take-all entries (keptChain h h a) (omega (arith, chain-short h h a, fits (w .valid))))
 
 pub agreement : Agreement
 agreement = record { fresh = record { agrees = fresh-agrees; valid = empty }; replied = replied; posted = posts; chain = chain }

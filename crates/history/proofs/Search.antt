@@ -20,8 +20,9 @@ use Rattle.book.specs.Chain.{endsOf, startOf, findIn, entryAt}
 use Rattle.book.specs.Posting.{lookupOf, namedAt}
 use Rattle.book.specs.declared.Book.{Book}
 use Rattle.book.proofs.Chain.{findIn-none, findIn-ends, findIn-hit, findIn-miss}
+use Rattle.queries.specs.Chain.{chainOf}
 use Rattle.history.specs.History.{History, accounts, entries, is, within, lastSerial, naming, points, Sought, missing, found, find, named, Fate, posted, fate, noRaw, entryIn, fateIn}
-use Rattle.history.specs.Agreement.{newestOf, keptData, keptEntry, linksOf, chainOf, Rows, start, more, Agrees}
+use Rattle.history.specs.Agreement.{newestOf, keptData, keptEntry, keptChain, Rows, start, more, Agrees}
 use Rattle.history.proofs.Accept.{and-left, and-right}
 use Rattle.history.proofs.Tables.{Seen}
 
@@ -76,32 +77,41 @@ module _ (all : History) (es : List Entry) (c : Raw) where
       (eqb (r .node) (c .«named_node») && eqb (r .serial) (c .«named_serial»)) refl
 
 -- the chain as a list
-links-end : (es : List Entry) (most : ℕ) → linksOf es most 0 ≡ take most []
-unfolding linksOf
+links-end : (es : List Entry) (most : ℕ) → chainOf es most 0 ≡ take most []
+unfolding chainOf
 links-end es zero = refl
 links-end es (suc most) = rw ends-zero refl
 
 links-next : (es : List Entry) (most at : ℕ) (e : Entry) → endsOf at ≡ false → getD es (at - 1) noEntry ≡ e →
-    linksOf es (suc most) at ≡ e ∷ linksOf es most (e .next)
-unfolding linksOf
+    chainOf es (suc most) at ≡ e ∷ chainOf es most (e .next)
+unfolding chainOf
 links-next es most at e t q = rw (t, q) refl
 
 module _ (all : History) (es : List Entry) (a : ℕ) where
   links-step : (r : Raw) (h : History) (most : ℕ) → length h < entries → getD es (length h) noEntry ≡ keptEntry all h r →
-      ((n : ℕ) → linksOf es n (newestOf h a) ≡ take n (chainOf all h a)) → (t : Bool) → eqb (r .account) a ≡ t →
-      linksOf es most (cond t (length h + 1) (newestOf h a)) ≡ take most (cond t (keptEntry all h r ∷ chainOf all h a) (chainOf all h a))
-  unfolding linksOf
+      ((n : ℕ) → chainOf es n (newestOf h a) ≡ take n (keptChain all h a)) → (t : Bool) → eqb (r .account) a ≡ t →
+      chainOf es most (cond t (length h + 1) (newestOf h a)) ≡ take most (cond t (keptEntry all h r ∷ keptChain all h a) (keptChain all h a))
+  unfolding chainOf
   links-step r h zero m e ih true p = refl
   links-step r h (suc n) m e ih true p =
       links-next es n (length h + 1) (keptEntry all h r) (goes-on (length h) m) (ap (λ k. getD es k noEntry) (one-less (length h)) ∙ e) ∙
-      ap (λ k. keptEntry all h r ∷ linksOf es n k) (next-kept r all h ∙ ap (λ x. newestOf h x) (eqb-true (r .account) a p)) ∙
+      ap (λ k. keptEntry all h r ∷ chainOf es n k) (next-kept r all h ∙ ap (λ x. newestOf h x) (eqb-true (r .account) a p)) ∙
       ap (λ l. keptEntry all h r ∷ l) (ih n)
   links-step r h most m e ih false p = ih most
 
-  pub links : {h : History} → Rows all es h → length h ≤ entries → (most : ℕ) → linksOf es most (newestOf h a) ≡ take most (chainOf all h a)
-  unfolding newestOf chainOf
+  pub links : {h : History} → Rows all es h → length h ≤ entries → (most : ℕ) → chainOf es most (newestOf h a) ≡ take most (keptChain all h a)
+  unfolding newestOf keptChain
   links start m most = links-end es most
   links (more {e = r} {h} e rs) m most = links-step r h most (omega arith) e (λ n. links rs (omega arith) n) (eqb (r .account) a) refl
+
+pub chain-short : (all h : History) (a : ℕ) → length (keptChain all h a) ≤ length h
+unfolding keptChain
+chain-short all [] a = omega arith
+chain-short all (r ∷ h) a = go (chain-short all h a) (eqb (r .account) a)
+  where
+    go : length (keptChain all h a) ≤ length h → (t : Bool) → length (cond t (keptEntry all h r ∷ keptChain all h a) (keptChain all h a)) ≤ suc (length h)
+    go ih true = omega arith
+    go ih false = omega arith
 
 -- what is found, as the book keeps it
 pub kept-found : (all : History) (es : List Entry) {h : History} → Rows all es h → (c : Raw) (i : ℕ) (e : Raw) → find h c ≡ found i e →

@@ -1,9 +1,9 @@
 -- A book and a history that agree, and that they agree after every entry offered.
-use Prim.Native.Nat.{ℕ, zero, suc, _+_, _-_, _≤_}
+use Prim.Native.Nat.{ℕ, _+_, _≤_}
 use mathlib.Core.Path.{_≡_}
 use mathlib.Core.Bool.{cond}
 use mathlib.Core.List.{List, [], _∷_}
-use lib.ListN.{length, getD, take}
+use lib.ListN.{length, getD}
 use lib.Dec.{eqb}
 use Rattle.measures.specs.Cents.{cents}
 use Rattle.measures.specs.Days.{day}
@@ -18,9 +18,9 @@ use Rattle.entries.specs.declared.data.Data.the-variants as data′
 use Rattle.rules.specs.Accounts.{accountOf}
 use Rattle.rules.specs.declared.accounts.Account.{Account}
 use Rattle.book.specs.Fresh.{freshBook}
-use Rattle.book.specs.Chain.{endsOf}
 use Rattle.book.specs.Posting.{accountAt, postOf}
 use Rattle.book.specs.declared.Book.{Book}
+use Rattle.queries.specs.Chain.{chainAt}
 use Rattle.history.specs.History.{History, lastSerial, Fate, fate, Balance, balance, accounts, entries, toArrears, refundsPaid, offer, repliedOf}
 use Rattle.history.specs.Laws.{Valid}
 
@@ -68,18 +68,11 @@ pub record Agrees (b : Book) (h : History) : Type 0 where
   pub account : (a : ℕ) → 1 ≤ a → a ≤ accounts → accountAt b a ≡ keptAccount (balance h a) (newestOf h a)
   pub rows : Rows h (b .entries) h
 
--- the entries along a chain of the book, at most so many, from the entry of a number on
-unfoldable pub linksOf : List Entry → ℕ → ℕ → List Entry
-linksOf es zero at = []
-linksOf es (suc most) at =
-    let e = getD es (at - 1) noEntry in
-    cond (endsOf at) [] (e ∷ linksOf es most (e .next))
-
 -- an account's entries, newest first, as the book keeps them
-unfoldable pub chainOf : History → History → ℕ → List Entry
-chainOf all [] account = []
-chainOf all (e ∷ h) account =
-    cond (eqb (e .account) account) (keptEntry all h e ∷ chainOf all h account) (chainOf all h account)
+unfoldable pub keptChain : History → History → ℕ → List Entry
+keptChain all [] account = []
+keptChain all (e ∷ h) account =
+    cond (eqb (e .account) account) (keptEntry all h e ∷ keptChain all h account) (keptChain all h account)
 
 -- a book and a history that offers have brought to where they are
 pub record Kept (b : Book) (h : History) : Type 0 where
@@ -95,5 +88,4 @@ pub record Agreement : Type 0 where
   -- the next book agrees with the next history
   pub posted : (b : Book) (h : History) → Kept b h → (r : Raw) → Kept (postOf b r .book) (offer h r)
   -- an account's chain is its entries, newest first
-  pub chain : (b : Book) (h : History) → Kept b h → (a : ℕ) → 1 ≤ a → a ≤ accounts → (most : ℕ) →
-      linksOf (b .entries) most (accountAt b a .newest) ≡ take most (chainOf h h a)
+  pub chain : (b : Book) (h : History) → Kept b h → (a : ℕ) → 1 ≤ a → a ≤ accounts → chainAt b a ≡ keptChain h h a
