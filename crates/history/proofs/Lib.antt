@@ -10,3 +10,4 @@ pub mod Stored
 pub mod Agree
 pub mod Lawful
 pub mod Carry
+pub mod Queries

@@ -2,3 +2,4 @@ pub mod History
 pub mod Laws
 pub mod Agreement
 pub mod Carry
+pub mod Queries
