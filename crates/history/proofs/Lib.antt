@@ -11,3 +11,4 @@ pub mod Agree
 pub mod Lawful
 pub mod Carry
 pub mod Queries
+pub mod Claim

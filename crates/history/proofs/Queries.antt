@@ -1,10 +1,10 @@
 -- A statement and a contribution query give what the history has.
-use mathlib.Core.Path.{_≡_, refl, sym, ap, _∙_}
-use Prim.Native.Nat.{ℕ, zero, suc, _+_, _-_, _*_, min, _≤_, _<_}
+use mathlib.Core.Path.{_≡_, refl, ap}
+use Prim.Native.Nat.{ℕ, zero, suc, _+_, _*_, min, _≤_}
 use native.Mathlib.Omega.{arith}
 use native.Mathlib.Nat.{min-eq-left}
 use mathlib.Core.Bool.{Bool, true, false, cond, not, _&&_}
-use mathlib.Core.List.{List, [], _∷_}
+use mathlib.Core.List.{[], _∷_}
 use lib.ListN.{length, take}
 use lib.Dec.{eqb, leb}
 use borrow.Author.Tests.{leb-true}
@@ -12,7 +12,7 @@ use Rattle.measures.specs.Cents.{most}
 use Rattle.entries.specs.Kinds.{kindOf, sameOf}
 use Rattle.entries.specs.Ranges.{between}
 use Rattle.entries.specs.Refusals.{ruleOf}
-use Rattle.entries.specs.Entries.{noEntry, entryOf, namedOf}
+use Rattle.entries.specs.Entries.{entryOf, namedOf}
 use Rattle.entries.specs.declared.raw.Raw.{Raw}
 use Rattle.entries.specs.declared.kinds.Kind.{Kind}
 use Rattle.entries.specs.declared.kinds.Kind.the-variants as kind
@@ -29,9 +29,9 @@ use Rattle.queries.specs.Statement.{statementReplyOf, givenOf, statementOf}
 use Rattle.queries.specs.Statement as statements
 use Rattle.queries.specs.Contribution.{contributionReplyOf, figuresOf, contributionQueryOf}
 use Rattle.queries.specs.Contribution as contributions
-use Rattle.history.specs.History.{History, accounts, entries, is, within, points, names, Sought, missing, found, find, Fate, posted, change, fate, noRaw, entryIn, Balance, balance, total, standingBill, standingPayment, heldOf, toArrears, refundsPaid}
+use Rattle.history.specs.History.{History, accounts, is, within, points, names, Sought, missing, found, find, Fate, change, fate, entryIn, total, standingBill, standingPayment, heldOf, toArrears, refundsPaid}
 use Rattle.history.specs.Laws.{Valid, empty, joins}
-use Rattle.history.specs.Agreement.{newestOf, keptAccount, keptData, dataIn, keptEntry, keptChain, Agrees, Kept, Agreement}
+use Rattle.history.specs.Agreement.{keptData, dataIn, keptEntry, keptChain, Kept}
 use Rattle.history.specs.Queries.{entriesOf, statementBy, statementTold, asking, contributionBy, contributionTold}
 use Rattle.history.proofs.Accept.{and-left, and-right, accepts, fits, InRange}
 use Rattle.history.proofs.Bound.{large, standing-small}
@@ -84,7 +84,7 @@ module _ (f : Kind → Raw → Fate → ℕ) (all : History) (a : ℕ) (small : 
 
 -- sums along the chain are the history's
 module _ (g : Entry → ℕ) (f : Kind → Raw → Fate → ℕ) (all : History) (a : ℕ) (same : (h : History) (e : Raw) → g (keptEntry all h e) ≡ f (kindOf (e .kind)) e (fate all e)) where
-  chain-total : (h : History) → totalOf g (keptChain all h a) ≡ total f all h a
+  pub chain-total : (h : History) → totalOf g (keptChain all h a) ≡ total f all h a
   unfolding totalOf keptChain total
   chain-total [] = refl
   chain-total (r ∷ h) = go (chain-total h) (eqb (r .account) a)
@@ -156,7 +156,7 @@ read-payment kind.Expiry e f s p = refl
 read-payment kind.Correction e f s p = refl
 
 module _ (all : History) where
-  held-read : (h : History) (e : Raw) → chains.heldOf (keptEntry all h e) ≡ heldOf (kindOf (e .kind)) e (fate all e)
+  pub held-read : (h : History) (e : Raw) → chains.heldOf (keptEntry all h e) ≡ heldOf (kindOf (e .kind)) e (fate all e)
   unfolding chains.heldOf entryOf
   held-read h e = read-held (kindOf (e .kind)) e (fate all e) _ _
 

@@ -3,3 +3,5 @@ pub mod Laws
 pub mod Agreement
 pub mod Carry
 pub mod Queries
+pub mod Calls
+pub mod Claim

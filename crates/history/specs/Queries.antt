@@ -1,15 +1,15 @@
 -- What a statement, a contribution query and a save give, as the history has it. Nothing here reads a book.
-use Prim.Native.Nat.{ℕ, zero, suc, _+_, _*_, min}
-use mathlib.Core.Bool.{Bool, true, false, cond, not}
-use mathlib.Core.List.{List, [], _∷_}
+use Prim.Native.Nat.{ℕ, zero, suc, min}
+use mathlib.Core.Bool.{false, cond, not}
+use mathlib.Core.List.{[], _∷_}
 use lib.ListN.{length, take}
-use lib.Dec.{eqb, leb, ltb}
+use lib.Dec.{eqb, leb}
 use Rattle.entries.specs.Kinds.{kindOf}
 use Rattle.entries.specs.declared.raw.Raw.{Raw}
 use Rattle.entries.specs.declared.kinds.Kind.the-variants as kind
 use Rattle.queries.specs.declared.statements.StatementReply.{StatementReply}
 use Rattle.queries.specs.declared.contributions.ContributionReply.{ContributionReply}
-use Rattle.history.specs.History.{History, accounts, is, within, find, Fate, fate, entryIn, fateIn, Balance, balance, Row, _⇒_, firstOf, total, standingBill, standingPayment, heldOf, toArrears, refundsPaid}
+use Rattle.history.specs.History.{History, accounts, is, within, find, fate, entryIn, balance, _⇒_, firstOf, total, standingBill, standingPayment, heldOf, toArrears, refundsPaid}
 
 -- an account's entries, newest first
 unfoldable pub entriesOf : History → ℕ → History
