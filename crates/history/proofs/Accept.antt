@@ -1,0 +1,276 @@
+-- What is known of an entry that no refusal stops.
+use mathlib.Core.Path.{_≡_, refl, sym, ap, _∙_}
+use Prim.Native.Nat.{ℕ, _+_, _≤_, _<_}
+use native.Mathlib.Omega.{arith}
+use mathlib.Core.Bool.{Bool, true, false, cond, not, _&&_, _||_, true≢false, false≢true}
+use mathlib.Core.List.{List, [], _∷_}
+use lib.ListN.{length}
+use lib.Dec.{eqb, leb, ltb}
+use borrow.Author.Tests.{ltb-false, leb-true, leb-false, eqb-true, not-false}
+use Rattle.entries.specs.Kinds.{kindOf}
+use Rattle.entries.specs.Ranges.{amountMost, limitsOf, between, bFits, namedFits, inRangeOf}
+use Rattle.entries.specs.declared.raw.Raw.{Raw}
+use Rattle.entries.specs.declared.kinds.Kind.{Kind}
+use Rattle.entries.specs.declared.kinds.Kind.the-variants as kind
+use Rattle.history.specs.History.{accounts, entries, lastDay, period, History, is, lastSerial, naming, suits, Sought, missing, found, find, named, Fate, fate, entryIn, fateIn, Balance, balance, Row, firstOf, refusals, judge}
+use Rattle.history.specs.Laws.{Valid, empty, joins}
+
+pub and-left : (a b : Bool) → (a && b) ≡ true → a ≡ true
+and-left true b e = refl
+and-left false b e = e
+
+pub and-right : (a b : Bool) → (a && b) ≡ true → b ≡ true
+and-right true b e = e
+and-right false b e = absurd (false≢true e)
+
+or-left : (a b : Bool) → (a || b) ≡ false → a ≡ false
+or-left true b e = e
+or-left false b e = refl
+
+-- a table of rules that refuses nothing: no rule is broken
+abbrev pub Silent : List Row → Type 0
+Silent [] = Unit {0}
+Silent (x ∷ xs) = (x .broken ≡ false) × Silent xs
+
+abbrev pub Numbered : List Row → Type 0
+Numbered [] = Unit {0}
+Numbered (x ∷ xs) = (0 < x .number) × Numbered xs
+
+silent : (xs : List Row) → Numbered xs → firstOf xs ≡ 0 → Silent xs
+silent [] n e = tt
+silent (x ∷ xs) n e = go (λ q. silent xs (n .1) q) (x .broken) refl e
+  where
+    go : (firstOf xs ≡ 0 → Silent xs) → (t : Bool) → x .broken ≡ t → cond t (x .number) (firstOf xs) ≡ 0 → Silent (x ∷ xs)
+    go ih true p q = absurd (omega (arith, n .0))
+    go ih false p q = (p, ih q)
+
+-- THE RANGES OF FIELDS
+amount-high : (k : Kind) (a : ℕ) → limitsOf k a .«amount_high» ≤ amountMost
+unfolding limitsOf
+amount-high kind.Unknown a = omega arith
+amount-high kind.Contribution a = omega arith
+amount-high kind.AddedCustomer a = omega arith
+amount-high kind.Bill a = omega arith
+amount-high kind.Payment a = omega arith
+amount-high kind.Deposit a = omega arith
+amount-high kind.DepositReturn a = omega arith
+amount-high kind.Expiry a = omega arith
+amount-high kind.Correction a = omega arith
+
+a-high : (k : Kind) (a : ℕ) → limitsOf k a .«a_high» ≤ 65535
+unfolding limitsOf
+a-high kind.Unknown a = omega arith
+a-high kind.Contribution a = omega arith
+a-high kind.AddedCustomer a = omega arith
+a-high kind.Bill a = omega arith
+a-high kind.Payment a = omega arith
+a-high kind.Deposit a = omega arith
+a-high kind.DepositReturn a = omega arith
+a-high kind.Expiry a = omega arith
+a-high kind.Correction a = omega arith
+
+b-high : (k : Kind) (a : ℕ) → a ≤ limitsOf k a .«a_high» → limitsOf k a .«b_high» ≤ 62
+unfolding limitsOf
+b-high kind.Unknown a l = omega arith
+b-high kind.Contribution a l = omega arith
+b-high kind.AddedCustomer a l = omega arith
+b-high kind.Bill a l = omega arith
+b-high kind.Payment a l = omega arith
+b-high kind.Deposit a l = omega arith
+b-high kind.DepositReturn a l = omega arith
+b-high kind.Expiry a l = omega arith
+b-high kind.Correction a l = omega arith
+
+b-fits : (r : Raw) (phases : Bool) (high : ℕ) → high ≤ 62 → bFits r phases high ≡ true → r .b ≤ 62
+unfolding bFits
+b-fits r true high l e = go (eqb (r .b) 1) refl e
+  where
+    go : (t : Bool) → eqb (r .b) 1 ≡ t → (t || eqb (r .b) 3) ≡ true → r .b ≤ 62
+    go true p q = omega (arith, eqb-true (r .b) 1 p)
+    go false p q = omega (arith, eqb-true (r .b) 3 q)
+b-fits r false high l e = omega (arith, leb-true (r .b) high e)
+
+pub record InRange (r : Raw) (k : Kind) : Type 0 where
+  pub amount : r .amount ≤ amountMost
+  pub a : r .a ≤ 65535
+  pub a-kind : r .a ≤ limitsOf k (r .a) .«a_high»
+  pub b : r .b ≤ 62
+
+in-range : (r : Raw) (k : Kind) → inRangeOf r k ≡ true → InRange r k
+unfolding inRangeOf between
+in-range r k e =
+    let l = limitsOf k (r .a) in
+    let amounts = between (r .amount) (l .«amount_low») (l .«amount_high») in
+    let metres = between (r .a) (l .«a_low») (l .«a_high») in
+    let first = and-left (amounts && namedFits r (l .named)) _ e in
+    let second = and-right (amounts && namedFits r (l .named)) _ e in
+    let amount : r .amount ≤ l .«amount_high» = leb-true _ _ (and-right (leb (l .«amount_low») (r .amount)) _ (and-left amounts _ first)) in
+    let a : r .a ≤ l .«a_high» = leb-true _ _ (and-right (leb (l .«a_low») (r .a)) _ (and-left metres _ second)) in
+    record {
+      amount = omega (arith, amount-high k (r .a));
+      a = omega (arith, a-high k (r .a));
+      a-kind = a;
+      b = b-fits r (l .phases) (l .«b_high») (b-high k (r .a) a) (and-right metres _ second);
+    }
+
+rate-high : (a : ℕ) → limitsOf kind.Deposit a .«a_high» ≡ 2000
+unfolding limitsOf
+rate-high a = refl
+
+-- WHAT AN ACCEPTED ENTRY HAS PASSED
+pub record Passed (h : History) (r : Raw) (k : Kind) (e : Raw) (f : Fate) (b : Balance) : Type 0 where
+  pub kind-known : is k kind.Unknown ≡ false
+  pub node-low : 1 ≤ r .node
+  pub node-high : r .node ≤ 2
+  pub account-low : 1 ≤ r .account
+  pub account-high : r .account ≤ accounts
+  pub day : r .day ≤ lastDay
+  pub ranges : InRange r k
+  pub serial-above : lastSerial h (r .node) < r .serial
+  pub room : length h < entries
+  pub suited : (naming k && not (suits k (kindOf (e .kind)))) ≡ false
+  pub deposit : (is k kind.Deposit && ltb 0 (b .deposit) || is k kind.DepositReturn && eqb (b .deposit) 0) ≡ false
+  pub unclosed : (is (kindOf (e .kind)) kind.Contribution && f .closed) ≡ false
+  pub period-runs : (is k kind.AddedCustomer && leb (e .day + period) (r .day)) ≡ false
+  pub uncorrected : ((is (kindOf (e .kind)) kind.Bill || is (kindOf (e .kind)) kind.Payment) && f .corrected) ≡ false
+
+pass : (h : History) (r : Raw) (k : Kind) (e : Raw) (f : Fate) (b : Balance) → firstOf (refusals h r k e f b) ≡ 0 → Passed h r k e f b
+pass h r k e f b z =
+    let s = silent (refusals h r k e f b) (omega arith) z in
+    let node = not-false _ (s .1 .0) in
+    let account = not-false _ (s .1 .1 .0) in
+    let late = s .1 .1 .1 .1 .1 in
+    record {
+      kind-known = s .0;
+      node-low = leb-true _ _ (and-left (leb 1 (r .node)) _ node);
+      node-high = leb-true _ _ (and-right (leb 1 (r .node)) _ node);
+      account-low = leb-true _ _ (and-left (leb 1 (r .account)) _ account);
+      account-high = leb-true _ _ (and-right (leb 1 (r .account)) _ account);
+      day = ltb-false _ _ (s .1 .1 .1 .0);
+      ranges = in-range r k (not-false _ (s .1 .1 .1 .1 .0));
+      serial-above = leb-false _ _ (late .0);
+      room = leb-false _ _ (late .1 .0);
+      suited = late .1 .1 .0;
+      deposit = late .1 .1 .1 .0;
+      unclosed = late .1 .1 .1 .1 .1 .0;
+      period-runs = late .1 .1 .1 .1 .1 .1 .0;
+      uncorrected = late .1 .1 .1 .1 .1 .1 .1 .1 .1 .1 .0;
+    }
+
+abbrev pub Accepts : History → Raw → Type 0
+Accepts h r = Passed h r (kindOf (r .kind)) (entryIn (named h r)) (fateIn h (named h r)) (balance h (r .account))
+
+pub accepts : (h : History) (r : Raw) → judge h r ≡ 0 → Accepts h r
+unfolding judge
+accepts h r e = pass h r _ _ _ _ e
+
+pub fits : {h : History} → Valid h → length h ≤ entries
+fits empty = omega arith
+fits (joins {r} {h} v j) = omega (arith, accepts h r j .room)
+
+-- WHAT AN ACCEPTED ENTRY IS
+module _ (h : History) (r : Raw) where
+  pub data Sort : Type 0 where
+    as-contribution : kindOf (r .kind) ≡ kind.Contribution → Sort
+    as-added : kindOf (r .kind) ≡ kind.AddedCustomer → (i : ℕ) (e : Raw) → find h r ≡ found i e →
+        kindOf (e .kind) ≡ kind.Contribution → r .day < e .day + period → Sort
+    as-bill : kindOf (r .kind) ≡ kind.Bill → Sort
+    as-payment : kindOf (r .kind) ≡ kind.Payment → Sort
+    as-deposit : kindOf (r .kind) ≡ kind.Deposit → balance h (r .account) .deposit ≡ 0 → r .a ≤ 2000 → Sort
+    as-return : kindOf (r .kind) ≡ kind.DepositReturn → Sort
+    as-expiry : kindOf (r .kind) ≡ kind.Expiry → (i : ℕ) (e : Raw) → find h r ≡ found i e → kindOf (e .kind) ≡ kind.Contribution → fate h e .closed ≡ false → Sort
+    as-correction : kindOf (r .kind) ≡ kind.Correction → (i : ℕ) (e : Raw) → find h r ≡ found i e →
+        (b : Bool) → kindOf (e .kind) ≡ cond b kind.Bill kind.Payment → fate h e .corrected ≡ false → Sort
+
+  -- the same, as far as naming goes
+  pub data Role : Type 0 where
+    alone : naming (kindOf (r .kind)) ≡ false → Role
+    upon : naming (kindOf (r .kind)) ≡ true → (i : ℕ) (e : Raw) → find h r ≡ found i e → Role
+
+pub named-find : (h : History) (r : Raw) → naming (kindOf (r .kind)) ≡ true → named h r ≡ find h r
+unfolding named
+named-find h r e = rw e
+
+pub named-none : (h : History) (r : Raw) → naming (kindOf (r .kind)) ≡ false → named h r ≡ missing
+unfolding named
+named-none h r e = rw e
+
+pub is-contribution : (l : Kind) → not (is l kind.Contribution) ≡ false → l ≡ kind.Contribution
+is-contribution kind.Unknown e = absurd (true≢false e)
+is-contribution kind.Contribution e = refl
+is-contribution kind.AddedCustomer e = absurd (true≢false e)
+is-contribution kind.Bill e = absurd (true≢false e)
+is-contribution kind.Payment e = absurd (true≢false e)
+is-contribution kind.Deposit e = absurd (true≢false e)
+is-contribution kind.DepositReturn e = absurd (true≢false e)
+is-contribution kind.Expiry e = absurd (true≢false e)
+is-contribution kind.Correction e = absurd (true≢false e)
+
+pub is-sum : (l : Kind) → not (is l kind.Bill || is l kind.Payment) ≡ false → (b : Bool) × (l ≡ cond b kind.Bill kind.Payment)
+is-sum kind.Unknown e = absurd (true≢false e)
+is-sum kind.Contribution e = absurd (true≢false e)
+is-sum kind.AddedCustomer e = absurd (true≢false e)
+is-sum kind.Bill e = (true, refl)
+is-sum kind.Payment e = (false, refl)
+is-sum kind.Deposit e = absurd (true≢false e)
+is-sum kind.DepositReturn e = absurd (true≢false e)
+is-sum kind.Expiry e = absurd (true≢false e)
+is-sum kind.Correction e = absurd (true≢false e)
+
+no-kind : kindOf 0 ≡ kind.Unknown
+unfolding kindOf
+no-kind = refl
+
+module _ (h : History) (r : Raw) where
+  added : kindOf (r .kind) ≡ kind.AddedCustomer → (s : Sought) → find h r ≡ s →
+      Passed h r kind.AddedCustomer (entryIn s) (fateIn h s) (balance h (r .account)) → Sort h r
+  added k missing f p = absurd (true≢false (sym (rw no-kind) ∙ p .suited))
+  added k (found i e) f p =
+      as-added k i e f (is-contribution (kindOf (e .kind)) (p .suited)) (leb-false _ _ (p .period-runs))
+
+  unclosed : (l : Kind) (t : Bool) → l ≡ kind.Contribution → (is l kind.Contribution && t) ≡ false → t ≡ false
+  unclosed l t k e = rw k at e
+
+  expired : kindOf (r .kind) ≡ kind.Expiry → (s : Sought) → find h r ≡ s →
+      Passed h r kind.Expiry (entryIn s) (fateIn h s) (balance h (r .account)) → Sort h r
+  expired k missing f p = absurd (true≢false (sym (rw no-kind) ∙ p .suited))
+  expired k (found i e) f p =
+      let l = is-contribution (kindOf (e .kind)) (p .suited) in
+      as-expiry k i e f l (unclosed (kindOf (e .kind)) (fate h e .closed) l (p .unclosed))
+
+  uncorrected : (b : Bool) (l : Kind) (t : Bool) → l ≡ cond b kind.Bill kind.Payment → ((is l kind.Bill || is l kind.Payment) && t) ≡ false → t ≡ false
+  uncorrected true l t k e = rw k at e
+  uncorrected false l t k e = rw k at e
+
+  corrected : kindOf (r .kind) ≡ kind.Correction → (s : Sought) → find h r ≡ s →
+      Passed h r kind.Correction (entryIn s) (fateIn h s) (balance h (r .account)) → Sort h r
+  corrected k missing f p = absurd (true≢false (sym (rw no-kind) ∙ p .suited))
+  corrected k (found i e) f p =
+      let l = is-sum (kindOf (e .kind)) (p .suited) in
+      as-correction k i e f (l .0) (l .1) (uncorrected (l .0) (kindOf (e .kind)) (fate h e .corrected) (l .1) (p .uncorrected))
+
+  sort : (k : Kind) → kindOf (r .kind) ≡ k → Passed h r k (entryIn (named h r)) (fateIn h (named h r)) (balance h (r .account)) → Sort h r
+  sort kind.Unknown k p = absurd (true≢false (p .kind-known))
+  sort kind.Contribution k p = as-contribution k
+  sort kind.AddedCustomer k p = added k (find h r) refl (rw (named-find h r (ap naming k)) at p)
+  sort kind.Bill k p = as-bill k
+  sort kind.Payment k p = as-payment k
+  sort kind.Deposit k p =
+      as-deposit k (let z = ltb-false 0 (balance h (r .account) .deposit) (or-left _ _ (p .deposit)) in omega arith)
+      (omega (arith, p .ranges .a-kind, rate-high (r .a)))
+  sort kind.DepositReturn k p = as-return k
+  sort kind.Expiry k p = expired k (find h r) refl (rw (named-find h r (ap naming k)) at p)
+  sort kind.Correction k p = corrected k (find h r) refl (rw (named-find h r (ap naming k)) at p)
+
+  pub sorted : judge h r ≡ 0 → Sort h r
+  sorted j = sort (kindOf (r .kind)) refl (accepts h r j)
+
+  pub role : Sort h r → Role h r
+  role (as-contribution k) = alone (ap naming k)
+  role (as-added k i e f c d) = upon (ap naming k) i e f
+  role (as-bill k) = alone (ap naming k)
+  role (as-payment k) = alone (ap naming k)
+  role (as-deposit k n a) = alone (ap naming k)
+  role (as-return k) = alone (ap naming k)
+  role (as-expiry k i e f c o) = upon (ap naming k) i e f
+  role (as-correction k i e f b c u) = upon (ap naming k) i e f

@@ -1,0 +1,396 @@
+-- A book and a history agree from the fresh book on, entry by entry.
+use mathlib.Core.Path.{_≡_, refl, sym, ap, _∙_, subst}
+use Prim.Native.Nat.{ℕ, zero, suc, _+_, _-_, _≤_, _<_}
+use native.Mathlib.Omega.{arith}
+use mathlib.Core.Bool.{Bool, true, false, cond}
+use mathlib.Core.List.{List, [], _∷_}
+use lib.ListN.{length, getD, set, length-set, length-replicate, getD-replicate}
+use lib.Seq.{take-all, getD-set-same, getD-set-other}
+use lib.Dec.{eqb, leb}
+use borrow.Author.Tests.{eqb-true, eqb-false, eq-eqb, le-leb, leb-true}
+use Rattle.entries.specs.Kinds.{kindOf}
+use Rattle.entries.specs.Refusals.{refusalNumber}
+use Rattle.entries.specs.Entries.{noEntry, entryOf, withOf}
+use Rattle.entries.specs.declared.raw.Raw.{Raw}
+use Rattle.entries.specs.declared.kinds.Kind.{Kind}
+use Rattle.entries.specs.declared.kinds.Kind.the-variants as kind
+use Rattle.entries.specs.declared.data.Entry.{Entry}
+use Rattle.entries.specs.declared.data.Data.{Data}
+use Rattle.entries.specs.declared.data.Data.the-variants as data′
+use Rattle.entries.specs.declared.refusals.Refusal.{Refusal}
+use Rattle.entries.specs.declared.refusals.Refusal.the-variants as no
+use Rattle.entries.specs.declared.refusals.Check.{Check}
+use Rattle.entries.specs.declared.refusals.Check.the-variants as check
+use Rattle.rules.specs.Formulas.{billed, interest}
+use Rattle.rules.specs.Accounts.{noAccount, numberedOf}
+use Rattle.rules.specs.Answers.{replyOf}
+use Rattle.rules.specs.Checks.{checkStateOf}
+use Rattle.rules.specs.Changes.{effectOf, answerOf}
+use Rattle.rules.specs.declared.accounts.Account.{Account}
+use Rattle.rules.specs.declared.changes.Found.{Found}
+use Rattle.rules.specs.declared.changes.Found.the-variants.{At, Nothing}
+use Rattle.rules.specs.declared.changes.Change.{Change}
+use Rattle.rules.specs.declared.changes.Outcome.{Outcome}
+use Rattle.rules.specs.declared.changes.Outcome.the-variants.{Refused, Accepted}
+use Rattle.book.specs.Fresh.{freshBook}
+use Rattle.book.specs.Serials.{lastOf, afterOf}
+use Rattle.book.specs.Chain.{slotOf, entryAt}
+use Rattle.book.specs.Refusals.{checkEntryOf, decidedOf, outcomeOf}
+use Rattle.book.specs.Posting.{accountAt, lookupOf, namedAt, rewritten, storedOf, bookAfter, decisionOf, postOf}
+use Rattle.book.specs.declared.Book.{Book}
+use Rattle.book.specs.declared.Serials.{Serials}
+use Rattle.queries.specs.Chain.{chainAt}
+use Rattle.history.specs.History.{History, accounts, entries, is, within, lastSerial, naming, names, Sought, missing, found, find, named, posted, refundOf, change, fate, entryIn, fateIn, Balance, Move, stays, charges, credits, refunds, deposits, returns, retains, restates, moved, moveBy, balance, Amounts, answered, amounts, judge, joined, offer, repliedBy, repliedOf, toArrears, refundsPaid}
+use Rattle.history.specs.Laws.{Valid, empty, joins}
+use Rattle.history.specs.Agreement.{newestOf, keptAccount, keptData, dataIn, keptEntry, keptChain, Rows, start, more, Agrees, Kept, Agreement}
+use Rattle.history.proofs.Accept.{and-left, and-right, accepts, fits, named-none, Sort, as-contribution, as-added, as-bill, as-payment, as-deposit, as-return, as-expiry, as-correction, sorted, Role, alone, upon, role}
+use Rattle.history.proofs.Names.{hit, unnamed, no-customers, plain, misses-kind, hits, names-points, fate-miss, fate-hit, customers-miss, customers-hit, customers-other}
+use Rattle.history.proofs.Moves.{named-at, move-contribution, move-bill, move-payment, move-deposit, move-return, move-added, move-expiry, move-bill-correction, move-payment-correction}
+use Rattle.history.proofs.Conserve.{postedAs, divide}
+use Rattle.history.proofs.Bound.{in-ranges, billed-small, interest-small, added-small, standing-small, bounded}
+use Rattle.history.proofs.Tables.{checkNumber, state-same, check-same}
+use Rattle.history.proofs.Search.{placeOf, links, chain-short, kept-found, lookup-same, alike, last-same}
+use Rattle.history.proofs.Effects.{changeBy, contribution-effect, bill-effect, payment-effect, deposit-effect, return-effect, added-effect, expiry-effect, bill-corrected, payment-corrected}
+use Rattle.history.proofs.Stored.{slot-at, rows-past, rows-miss, rows-hit}
+
+-- THE REFUSAL
+module _ {b : Book} {h : History} (w : Agrees b h) (v : Valid h) (r : Raw) where
+  pub refusal-same : checkNumber (checkStateOf (checkEntryOf r (kindOf (r .kind)) (b .count) (lastOf (b .last) (r .node))) r (kindOf (r .kind)) (accountAt b (r .account)) (namedAt b r)) ≡ judge h r
+  unfolding judge
+  refusal-same =
+      check-same h r (kindOf (r .kind)) (b .count) (lastOf (b .last) (r .node)) (accountAt b (r .account)) (namedAt b r) (entryIn (named h r)) (fateIn h (named h r)) (balance h (r .account)) (w .counted)
+      (λ t. last-same w (fits v) r t)
+      (λ t. let e = alike w (fits v) r t in
+      rw (w .account (r .account) (leb-true 1 (r .account) (and-left (leb 1 (r .account)) _ t)) (leb-true (r .account) accounts (and-right (leb 1 (r .account)) _ t)))
+      (state-same h r (kindOf (r .kind)) (newestOf h (r .account)) (balance h (r .account)) (namedAt b r) (entryIn (named h r)) (fateIn h (named h r)) (e .on) (e .seen)))
+
+positive : (n : Refusal) → 0 < refusalNumber n
+positive no.UnknownKind = omega arith
+positive no.UnknownNode = omega arith
+positive no.UnknownAccount = omega arith
+positive no.UnknownDay = omega arith
+positive no.FieldOutOfRange = omega arith
+positive no.SerialNotNew = omega arith
+positive no.BookFull = omega arith
+positive no.NotOnChain = omega arith
+positive no.DepositState = omega arith
+positive no.DayBefore = omega arith
+positive no.Closed = omega arith
+positive no.PeriodOver = omega arith
+positive no.PeriodRunning = omega arith
+positive no.OnePhase = omega arith
+positive no.MetresExceeded = omega arith
+positive no.CorrectedBefore = omega arith
+positive no.ImageLength = omega arith
+positive no.ImageHeader = omega arith
+positive no.ImageCount = omega arith
+positive no.NextIndex = omega arith
+positive no.BufferShort = omega arith
+positive no.ResultsShort = omega arith
+
+decided-passed : (c : Check) (o : Outcome) → checkNumber c ≡ 0 → decidedOf c o ≡ o
+unfolding decidedOf
+decided-passed check.Passed o e = refl
+decided-passed (check.Refused n) o e = absurd (omega (arith, positive n))
+
+decided-refused : (c : Check) (o : Outcome) (n : ℕ) → checkNumber c ≡ suc n → (m : Refusal) × (decidedOf c o ≡ Refused m) × (refusalNumber m ≡ suc n)
+unfolding decidedOf
+decided-refused check.Passed o n e = absurd (omega arith)
+decided-refused (check.Refused m) o n e = (m, refl, e)
+
+module _ {b : Book} {h : History} (w : Agrees b h) (v : Valid h) (r : Raw) where
+  decision-refused : (n : ℕ) → judge h r ≡ suc n → (m : Refusal) × (decisionOf b r ≡ Refused m) × (refusalNumber m ≡ suc n)
+  unfolding decisionOf outcomeOf
+  decision-refused n j = decided-refused _ _ n (refusal-same w v r ∙ j)
+
+  decision-accepted : judge h r ≡ 0 → decisionOf b r ≡ effectOf r (kindOf (r .kind)) (accountAt b (r .account)) (lookupOf b r) (namedAt b r .«data»)
+  unfolding decisionOf outcomeOf
+  decision-accepted j = decided-passed _ _ (refusal-same w v r ∙ j)
+
+-- THE EFFECT OF AN ACCEPTED ENTRY
+-- the data of the named entry after it
+abbrev newNamed : History → Raw → Sought → Data
+newNamed h r missing = data′.Unused
+newNamed h r (found i e) = dataIn (r ∷ h) e
+
+module _ {b : Book} {h : History} (w : Agrees b h) (v : Valid h) (r : Raw) (j : judge h r ≡ 0) where
+  abbrev bal : Balance
+  bal = balance h (r .account)
+
+  abbrev last : ℕ
+  last = newestOf h (r .account)
+
+  known : within (r .account) 1 accounts ≡ true
+  known = let p = accepts h r j in rw (le-leb 1 (r .account) (p .account-low), le-leb (r .account) accounts (p .account-high)) refl
+
+  account-at : accountAt b (r .account) ≡ keptAccount bal last
+  account-at = let p = accepts h r j in w .account (r .account) (p .account-low) (p .account-high)
+
+  lookup-at : lookupOf b r ≡ placeOf (named h r)
+  lookup-at = lookup-same w (fits v) r known
+
+  -- the entry that it names, as the book keeps it
+  entry-at : (i : ℕ) (e : Raw) → naming (kindOf (r .kind)) ≡ true → find h r ≡ found i e → namedAt b r ≡ getD (b .entries) i noEntry
+  unfolding entryAt
+  entry-at i e k f = rw (lookup-at, named-at h r bal i e f k) refl
+
+  data-at : (i : ℕ) (e : Raw) → naming (kindOf (r .kind)) ≡ true → find h r ≡ found i e → namedAt b r .«data» ≡ dataIn h e
+  unfolding entryOf
+  data-at i e k f = ap (λ (x : Entry). x .«data») (entry-at i e k f ∙ kept-found h (b .entries) (w .rows) r i e f .1)
+
+  data-new : naming (kindOf (r .kind)) ≡ false → dataIn (r ∷ h) r ≡ keptData (kindOf (r .kind)) r (posted r) 0 0
+  data-new k =
+      let n = plain r r k in
+      let fresh = accepts h r j .serial-above in
+      rw (
+        fate-miss r h r n,
+        unnamed v r fresh,
+        customers-miss (λ (y : Amounts). y .settled) r h r n,
+        customers-miss (λ (y : Amounts). y .paidOut) r h r n,
+        no-customers v (λ (y : Amounts). y .settled) r fresh,
+        no-customers v (λ (y : Amounts). y .paidOut) r fresh,
+      ) refl
+
+  abbrev Effect : Move → Data → Sought → Data → Type 0
+  Effect m new s named′ =
+      effectOf r (kindOf (r .kind)) (accountAt b (r .account)) (lookupOf b r) (namedAt b r .«data») ≡ Accepted (changeBy m bal last new (placeOf s) named′)
+
+  close : (m : Move) (new : Data) (s : Sought) (named′ : Data) → moveBy h r bal ≡ m → dataIn (r ∷ h) r ≡ new → named h r ≡ s → newNamed h r s ≡ named′ →
+      Effect m new s named′ → Effect (moveBy h r bal) (dataIn (r ∷ h) r) (named h r) (newNamed h r (named h r))
+  close m new s named′ p q t u e = rw (p, q, t, u) e
+
+  -- after an entry that names e
+  module _ (i : ℕ) (e : Raw) (f : find h r ≡ found i e) where
+    named-added : kindOf (r .kind) ≡ kind.AddedCustomer → kindOf (e .kind) ≡ kind.Contribution →
+        dataIn (r ∷ h) e ≡
+        keptData kind.Contribution e (change kind.AddedCustomer r e (fate h e)) (answered (refunds (refundOf r e (fate h e))) bal .settled + toArrears h e)
+        (answered (refunds (refundOf r e (fate h e))) bal .paidOut + refundsPaid h e)
+    unfolding amounts
+    named-added k c =
+        let p = hit v r i e f .aimed in
+        rw (
+          fate-hit r h e (names-points r e (ap naming k) p),
+          customers-hit (λ (y : Amounts). y .settled) r h e k p,
+          customers-hit (λ (y : Amounts). y .paidOut) r h e k p,
+          move-added h r bal i e f k,
+          k,
+          c,
+        ) refl
+
+    named-other : naming (kindOf (r .kind)) ≡ true → is (kindOf (r .kind)) kind.AddedCustomer ≡ false →
+        dataIn (r ∷ h) e ≡ keptData (kindOf (e .kind)) e (change (kindOf (r .kind)) r e (fate h e)) (toArrears h e) (refundsPaid h e)
+    named-other k o =
+        let p = hit v r i e f .aimed in
+        rw (fate-hit r h e (names-points r e k p), customers-other (λ (y : Amounts). y .settled) r h e o, customers-other (λ (y : Amounts). y .paidOut) r h e o) refl
+
+  effect-by : Sort h r → Effect (moveBy h r bal) (dataIn (r ∷ h) r) (named h r) (newNamed h r (named h r))
+  effect-by (as-contribution k) =
+      close stays (keptData kind.Contribution r (posted r) 0 0) missing data′.Unused (move-contribution h r bal k) (data-new (ap naming k) ∙ (rw k refl)) (named-none h r (ap naming k)) refl
+      (rw (account-at, k) (contribution-effect r bal last (lookupOf b r) (namedAt b r .«data»)))
+  effect-by (as-bill k) =
+      let s = accepts h r j .ranges in
+      let n = accepts h r j .room in
+      let x = billed (r .amount) (r .b) (r .a) in
+      let small = billed-small (r .amount) (r .b) (r .a) (s .amount) (s .b) (s .a) in
+      close (charges x) (keptData kind.Bill r (postedAs kind.Bill r) 0 0) missing data′.Unused (move-bill h r bal k) (data-new (ap naming k) ∙ (rw k refl)) (named-none h r (ap naming k)) refl
+      (rw (account-at, k) (bill-effect r bal last (lookupOf b r) (namedAt b r .«data») (postedAs kind.Bill r) (s .amount) (omega (arith, s .b)) (omega (arith, bounded v (r .account) .arrears)) refl refl))
+  effect-by (as-payment k) =
+      let s = accepts h r j .ranges in
+      let n = accepts h r j .room in
+      close (credits (r .amount)) (keptData kind.Payment r (postedAs kind.Payment r) 0 0) missing data′.Unused (move-payment h r bal k) (data-new (ap naming k) ∙ (rw k refl)) (named-none h r (ap naming k)) refl
+      (rw (account-at, k) (payment-effect r bal last (lookupOf b r) (namedAt b r .«data») (postedAs kind.Payment r) (omega (arith, s .amount, bounded v (r .account) .credit)) refl refl))
+  effect-by (as-deposit k z a) =
+      close (deposits (r .amount) (r .a) (r .day)) (keptData kind.Deposit r (posted r) 0 0) missing data′.Unused (move-deposit h r bal k) (data-new (ap naming k) ∙ (rw k refl)) (named-none h r (ap naming k)) refl
+      (rw (account-at, k) (deposit-effect r bal last (lookupOf b r) (namedAt b r .«data»)))
+  effect-by (as-return k) =
+      let bd = bounded v (r .account) in
+      let day = accepts h r j .day in
+      let small = interest-small (bal .deposit) (bal .rate) (r .day - bal .deposited) (bd .deposit) (bd .rate) (omega arith) in
+      close (returns (interest (bal .deposit) (bal .rate) (r .day - bal .deposited))) (keptData kind.DepositReturn r (posted r) 0 0) missing data′.Unused (move-return h r bal k)
+      (data-new (ap naming k) ∙ (rw k refl)) (named-none h r (ap naming k)) refl
+      (rw (account-at, k) (return-effect r bal last (lookupOf b r) (namedAt b r .«data») (bd .deposit) (bd .rate) day (omega arith)))
+  effect-by (as-added k i e f c d) =
+      let x = refundOf r e (fate h e) in
+      let in-h = hit v r i e f .member in
+      let whole = divide v e in-h c in
+      let small = in-ranges v e in-h .amount in
+      let n = accepts h r j .room in
+      close (refunds x) (keptData kind.AddedCustomer r (fate (r ∷ h) r) 0 0) (found i e)
+      (keptData kind.Contribution e (change kind.AddedCustomer r e (fate h e)) (answered (refunds x) bal .settled + toArrears h e) (answered (refunds x) bal .paidOut + refundsPaid h e))
+      (move-added h r bal i e f k) (rw k refl) (named-at h r bal i e f (ap naming k)) (named-added i e f k c)
+      (rw (data-at i e (ap naming k) f, account-at, lookup-at, named-at h r bal i e f (ap naming k), k, c)
+      (added-effect r bal last Nothing data′.Unused e (fate h e) i (toArrears h e) (refundsPaid h e) (fate (r ∷ h) r) small (accepts h r j .ranges .a)
+      (omega (arith, added-small h e)) (omega arith) (omega arith)))
+  effect-by (as-expiry k i e f c o) =
+      close (retains (fate h e .held)) (keptData kind.Expiry r (fate (r ∷ h) r) 0 0) (found i e)
+      (keptData kind.Contribution e (change kind.Expiry r e (fate h e)) (toArrears h e) (refundsPaid h e))
+      (move-expiry h r bal i e f k) (rw k refl) (named-at h r bal i e f (ap naming k))
+      (named-other i e f (ap naming k) (ap (λ (l : Kind). is l kind.AddedCustomer) k) ∙ (rw (k, c) refl))
+      (rw (data-at i e (ap naming k) f, account-at, lookup-at, named-at h r bal i e f (ap naming k), k, c)
+      (expiry-effect r bal last Nothing data′.Unused e (fate h e) i (toArrears h e) (refundsPaid h e) (fate (r ∷ h) r)))
+  effect-by (as-correction k i e f true c u) =
+      let bd = bounded v (r .account) in
+      let n = accepts h r j .room in
+      let small = accepts h r j .ranges .amount in
+      let stands = standing-small v e (in-ranges v e (hit v r i e f .member)) in
+      close (restates (fate h e .standing) (r .amount)) (keptData kind.Correction r (fate (r ∷ h) r) 0 0) (found i e)
+      (keptData kind.Bill e (change kind.Correction r e (fate h e)) (toArrears h e) (refundsPaid h e))
+      (move-bill-correction h r bal i e f k c) (rw k refl) (named-at h r bal i e f (ap naming k))
+      (named-other i e f (ap naming k) (ap (λ (l : Kind). is l kind.AddedCustomer) k) ∙ (rw (k, c) refl))
+      (rw (data-at i e (ap naming k) f, account-at, lookup-at, named-at h r bal i e f (ap naming k), k, c)
+      (bill-corrected r bal last Nothing data′.Unused e (fate h e) i (toArrears h e) (refundsPaid h e) (fate (r ∷ h) r) (leb (fate h e .standing) (r .amount)) refl
+      (omega (arith, bd .arrears)) (omega (arith, bd .credit))))
+  effect-by (as-correction k i e f false c u) =
+      let bd = bounded v (r .account) in
+      let n = accepts h r j .room in
+      let small = accepts h r j .ranges .amount in
+      let stands = standing-small v e (in-ranges v e (hit v r i e f .member)) in
+      close (restates (r .amount) (fate h e .standing)) (keptData kind.Correction r (fate (r ∷ h) r) 0 0) (found i e)
+      (keptData kind.Payment e (change kind.Correction r e (fate h e)) (toArrears h e) (refundsPaid h e))
+      (move-payment-correction h r bal i e f k c) (rw k refl) (named-at h r bal i e f (ap naming k))
+      (named-other i e f (ap naming k) (ap (λ (l : Kind). is l kind.AddedCustomer) k) ∙ (rw (k, c) refl))
+      (rw (data-at i e (ap naming k) f, account-at, lookup-at, named-at h r bal i e f (ap naming k), k, c)
+      (payment-corrected r bal last Nothing data′.Unused e (fate h e) i (toArrears h e) (refundsPaid h e) (fate (r ∷ h) r) (leb (r .amount) (fate h e .standing)) refl
+      (omega (arith, bd .arrears)) (omega (arith, bd .credit))))
+
+  abbrev theChange : Change
+  theChange = changeBy (moveBy h r bal) bal last (dataIn (r ∷ h) r) (placeOf (named h r)) (newNamed h r (named h r))
+
+  pub decision : decisionOf b r ≡ Accepted theChange
+  decision = decision-accepted w v r j ∙ effect-by (sorted h r j)
+
+  -- the entries of the next book
+  abbrev es₁ : List Entry
+  es₁ = set (b .entries) (length h) (keptEntry (r ∷ h) h r)
+
+  room : length h < length (b .entries)
+  room = omega (arith, accepts h r j .room, w .entries-long)
+
+  rows-stored : Role h r → Rows (r ∷ h) (rewritten (placeOf (named h r)) (withOf (namedAt b r) (newNamed h r (named h r))) es₁) (r ∷ h)
+  rows-stored (alone k) =
+      rw (named-none h r k)
+      (more (getD-set-same (b .entries) (length h) (keptEntry (r ∷ h) h r) noEntry room)
+      (rows-past (rows-miss (misses-kind r k h) (w .rows)) (length h) (keptEntry (r ∷ h) h r) (omega arith)))
+  rows-stored (upon k i e f) =
+      let inside = hit v r i e f .inside in
+      let apart : i ≡ length h → ⊥ = λ q. omega arith in
+      let apart′ : length h ≡ i → ⊥ = λ q. omega arith in
+      let long : i < length es₁ = rw length-set (omega (arith, room)) in
+      let same : namedAt b r ≡ getD es₁ i noEntry = entry-at i e k f ∙ sym (getD-set-other (b .entries) (length h) i (keptEntry (r ∷ h) h r) noEntry apart) in
+      rw (named-at h r bal i e f k, same)
+      (more
+      (getD-set-other es₁ i (length h) (withOf (getD es₁ i noEntry) (dataIn (r ∷ h) e)) noEntry apart′ ∙
+      getD-set-same (b .entries) (length h) (keptEntry (r ∷ h) h r) noEntry room)
+      (rows-hit r h es₁ i e long (hits v r i e k f) (rows-past (w .rows) (length h) (keptEntry (r ∷ h) h r) (omega arith))))
+
+  abbrev next : Book
+  next = storedOf b r (namedAt b r) theChange
+
+  rows-after : Rows (r ∷ h) (next .entries) (r ∷ h)
+  unfolding storedOf
+  rows-after =
+      rw account-at
+      (subst (λ (n : ℕ). Rows (r ∷ h) (rewritten (placeOf (named h r)) (withOf (namedAt b r) (newNamed h r (named h r))) (set (b .entries) n (keptEntry (r ∷ h) h r))) (r ∷ h))
+      (sym (w .counted)) (rows-stored (role h r (sorted h r j))))
+
+  long-rewritten : (f : Found) (x : Entry) (es : List Entry) → length (rewritten f x es) ≡ length es
+  long-rewritten Nothing x es = refl
+  long-rewritten (At i) x es = length-set es i x
+
+  -- its accounts
+  account-new : keptAccount (moved (moveBy h r bal) bal) (length h + 1) ≡ keptAccount (balance (r ∷ h) (r .account)) (newestOf (r ∷ h) (r .account))
+  unfolding balance newestOf
+  account-new = rw (eq-eqb (r .account) (r .account) refl) refl
+
+  account-else : (a : ℕ) → eqb (r .account) a ≡ false → keptAccount (balance (r ∷ h) a) (newestOf (r ∷ h) a) ≡ keptAccount (balance h a) (newestOf h a)
+  unfolding balance newestOf
+  account-else a e = rw e refl
+
+  account-after : (a : ℕ) → 1 ≤ a → a ≤ accounts → accountAt next a ≡ keptAccount (balance (r ∷ h) a) (newestOf (r ∷ h) a)
+  unfolding storedOf numberedOf
+  account-after a l m = rw (w .counted) (go (eqb (r .account) a) refl)
+    where
+      new : Account
+      new = keptAccount (moved (moveBy h r bal) bal) (length h + 1)
+
+      go : (t : Bool) → eqb (r .account) a ≡ t → getD (set (b .accounts) (slotOf (r .account)) new) (slotOf a) noAccount ≡ keptAccount (balance (r ∷ h) a) (newestOf (r ∷ h) a)
+      go true e =
+          let p = accepts h r j in
+          let own : slotOf (r .account) < length (b .accounts) = omega (arith, slot-at (r .account) (p .account-low) (p .account-high), p .account-low, p .account-high, w .accounts-long) in
+          subst (λ (n : ℕ). getD (set (b .accounts) (slotOf (r .account)) new) (slotOf n) noAccount ≡ keptAccount (balance (r ∷ h) n) (newestOf (r ∷ h) n))
+          (eqb-true (r .account) a e) (getD-set-same (b .accounts) (slotOf (r .account)) new noAccount own ∙ account-new)
+      go false e =
+          let p = accepts h r j in
+          let other = eqb-false (r .account) a e in
+          let apart : slotOf a ≡ slotOf (r .account) → ⊥ =
+          λ q. other (omega (arith, slot-at (r .account) (p .account-low) (p .account-high), slot-at a l m, p .account-low)) in
+          getD-set-other (b .accounts) (slotOf (r .account)) (slotOf a) new noAccount apart ∙ w .account a l m ∙ sym (account-else a e)
+
+  -- its last serials
+  last-1-after : (t : Bool) → cond {A = Serials} t (record { «node_1» = r .serial; «node_2» = b .last .«node_2» }) (record { «node_1» = b .last .«node_1»; «node_2» = r .serial }) .«node_1» ≡
+      cond t (r .serial) (lastSerial h 1)
+  last-1-after true = refl
+  last-1-after false = w .last-1
+
+  last-2-after : (t : Bool) → eqb (r .node) 1 ≡ t → (u : Bool) → eqb (r .node) 2 ≡ u →
+      cond {A = Serials} t (record { «node_1» = r .serial; «node_2» = b .last .«node_2» }) (record { «node_1» = b .last .«node_1»; «node_2» = r .serial }) .«node_2» ≡
+      cond u (r .serial) (lastSerial h 2)
+  last-2-after true p true q = absurd (omega (arith, eqb-true (r .node) 1 p, eqb-true (r .node) 2 q))
+  last-2-after true p false q = w .last-2
+  last-2-after false p true q = refl
+  last-2-after false p false q =
+      let one = eqb-false (r .node) 1 p in
+      let two = eqb-false (r .node) 2 q in
+      absurd (omega (arith, accepts h r j .node-low, accepts h r j .node-high))
+
+  pub agree-step : Agrees next (r ∷ h)
+  unfolding storedOf afterOf lastSerial
+  agree-step =
+      record {
+        accounts-long = rw length-set (w .accounts-long);
+        entries-long = rw (long-rewritten, length-set) (w .entries-long);
+        counted = omega (arith, w .counted);
+        last-1 = last-1-after (eqb (r .node) 1);
+        last-2 = last-2-after (eqb (r .node) 1) refl (eqb (r .node) 2) refl;
+        account = account-after;
+        rows = rows-after;
+      }
+
+-- THE AGREEMENT
+fresh-agrees : Agrees freshBook []
+unfolding freshBook newestOf balance lastSerial
+fresh-agrees =
+    record {
+      accounts-long = length-replicate 128 noAccount;
+      entries-long = length-replicate 1024 noEntry;
+      counted = refl;
+      last-1 = refl;
+      last-2 = refl;
+      account = λ a l m. getD-replicate 128 (slotOf a) noAccount noAccount (omega (arith, slot-at a l m));
+      rows = start;
+    }
+
+module _ (b : Book) (h : History) (w : Kept b h) (r : Raw) where
+  replied : postOf b r .reply ≡ repliedOf h r
+  unfolding postOf repliedOf replyOf answerOf amounts
+  replied = go (judge h r) refl
+    where
+      go : (n : ℕ) → judge h r ≡ n → replyOf (answerOf (decisionOf b r) (b .count + 1)) ≡ repliedBy n (length h + 1) (amounts h r)
+      go zero j = rw (decision (w .agrees) (w .valid) r j, w .agrees .counted) refl
+      go (suc n) j = let m = decision-refused (w .agrees) (w .valid) r n j in rw (m .1, m .2) refl
+
+  posts : Kept (postOf b r .book) (offer h r)
+  unfolding postOf offer bookAfter
+  posts = go (judge h r) refl
+    where
+      go : (n : ℕ) → judge h r ≡ n → Kept (bookAfter b r (namedAt b r) (decisionOf b r)) (joined n r h)
+      go zero j = rw (decision (w .agrees) (w .valid) r j) (record { agrees = agree-step (w .agrees) (w .valid) r j; valid = joins (w .valid) j })
+      go (suc n) j = rw (decision-refused (w .agrees) (w .valid) r n j .1) w
+
+chain : (b : Book) (h : History) → Kept b h → (a : ℕ) → 1 ≤ a → a ≤ accounts → chainAt b a ≡ keptChain h h a
+chain b h w a l m =
+    rw (w .agrees .account a l m)
+    (links h (b .entries) a (w .agrees .rows) (fits (w .valid)) entries ∙ take-all entries (keptChain h h a) (omega (arith, chain-short h h a, fits (w .valid))))
+
+pub agreement : Agreement
+agreement = record { fresh = record { agrees = fresh-agrees; valid = empty }; replied = replied; posted = posts; chain = chain }

@@ -1,0 +1,74 @@
+-- Demand 3, from the step over lists of calls.
+use Prim.Native.Nat.{ℕ, _+_, _*_, min}
+use mathlib.Core.Path.{_≡_, refl, ap, ap₂}
+use native.Mathlib.Omega.{arith}
+use mathlib.Core.Bool.{Bool, true, false, cond}
+use mathlib.Core.List.{List, [], _∷_}
+use lib.ListN.{length}
+use lib.Dec.{ltb}
+use Rattle.rules.specs.declared.accounts.Account.{Account}
+use Rattle.book.specs.Fresh.{freshBook}
+use Rattle.book.specs.declared.Book.{Book}
+use Rattle.queries.specs.Chain as chains
+use Rattle.image.specs.Saves.{refusedSave, acceptedSave, saveOf}
+use Rattle.history.specs.History.{History, heldOf}
+use Rattle.history.specs.Agreement.{Kept}
+use Rattle.history.specs.Calls.{Call, posting, carryOver, statement, contribution, save, posted, carried, stated, given, saved, callOffers, saveTold, told, historyAfter, toldAll, historyOf}
+use Rattle.history.specs.Claim.{callBook, callAnswer, bookAfter, answers, bookOf, Demand3}
+use Rattle.history.proofs.Accept.{fits}
+use Rattle.history.proofs.Lawful.{laws}
+use Rattle.history.proofs.Agree.{agreement}
+use Rattle.history.proofs.Carry.{carry-agreement}
+use Rattle.history.proofs.Queries.{chain-total, held-read, statement-same, contribution-same}
+
+save-same : (b : Book) (h : History) → Kept b h → (buffer : List ℕ) → saved (saveOf b buffer .refusal) (saveOf b buffer .bytes) ≡ saveTold h buffer
+unfolding saveOf saveTold
+save-same b h w buffer = rw size (go (ltb (length buffer) (24 * (length h + 1))))
+  where
+    size : min (b .count) 1024 ≡ length h
+    size = omega (arith, w .agrees .counted, fits (w .valid))
+
+    go : (t : Bool) → saved (cond t (refusedSave 21) (acceptedSave (24 * (length h + 1))) .refusal) (cond t (refusedSave 21) (acceptedSave (24 * (length h + 1))) .bytes) ≡
+        cond t (saved 21 0) (saved 0 (24 * (length h + 1)))
+    go true = refl
+    go false = refl
+
+keeps-call : (b : Book) (h : History) → Kept b h → (c : Call) → Kept (callBook b c) (callOffers h c)
+unfolding callBook callOffers
+keeps-call b h w (posting r) = agreement .posted b h w r
+keeps-call b h w (carryOver rs results) = carry-agreement .carried b h w rs results
+keeps-call b h w (statement account allowance) = w
+keeps-call b h w (contribution account node serial) = w
+keeps-call b h w (save buffer) = w
+
+tells-call : (b : Book) (h : History) → Kept b h → (c : Call) → callAnswer b c ≡ told h c
+unfolding callAnswer told
+tells-call b h w (posting r) = ap posted (agreement .replied b h w r)
+tells-call b h w (carryOver rs results) = ap₂ carried (carry-agreement .refused rs results) (carry-agreement .results b h w rs results)
+tells-call b h w (statement account allowance) = ap stated (statement-same w account allowance)
+tells-call b h w (contribution account node serial) = ap given (contribution-same w account node serial)
+tells-call b h w (save buffer) = save-same b h w buffer
+
+keeps-calls : (b : Book) (h : History) → Kept b h → (cs : List Call) → Kept (bookAfter b cs) (historyAfter h cs)
+unfolding bookAfter historyAfter
+keeps-calls b h w [] = w
+keeps-calls b h w (c ∷ cs) = keeps-calls (callBook b c) (callOffers h c) (keeps-call b h w c) cs
+
+tells-calls : (b : Book) (h : History) → Kept b h → (cs : List Call) → answers b cs ≡ toldAll h cs
+unfolding answers toldAll
+tells-calls b h w [] = refl
+tells-calls b h w (c ∷ cs) = ap₂ (λ x xs. x ∷ xs) (tells-call b h w c) (tells-calls (callBook b c) (callOffers h c) (keeps-call b h w c) cs)
+
+pub demand3 : Demand3
+demand3 cs =
+    let w = keeps-calls freshBook [] (agreement .fresh) cs in
+    let h = historyOf cs in
+    record {
+      answered = tells-calls freshBook [] (agreement .fresh) cs;
+      arrears = λ a l m. ap (λ (x : Account). x .arrears .0) (w .agrees .account a l m);
+      credit = λ a l m. ap (λ (x : Account). x .credit .0) (w .agrees .account a l m);
+      deposit = λ a l m. ap (λ (x : Account). x .deposit .0) (w .agrees .account a l m);
+      held = λ a l m. rw (agreement .chain (bookOf cs) h w a l m) (chain-total chains.heldOf heldOf h a (held-read h) h);
+      kept = w;
+      lawful = laws .lawful h (w .valid);
+    }

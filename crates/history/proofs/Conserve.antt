@@ -1,0 +1,338 @@
+-- An account's sums and amounts are conserved, and so is each contribution.
+use mathlib.Core.Path.{_≡_, refl, sym, ap, _∙_, subst}
+use Prim.Native.Nat.{ℕ, _+_, _-_, _≤_}
+use native.Mathlib.Omega.{arith}
+use mathlib.Core.Bool.{Bool, true, false, cond, true≢false}
+use mathlib.Core.List.{[], _∷_}
+use lib.Dec.{eqb, leb}
+use borrow.Author.Tests.{eqb-true, eq-eqb, leb-true, leb-false}
+use Rattle.entries.specs.Kinds.{kindOf}
+use Rattle.entries.specs.declared.raw.Raw.{Raw}
+use Rattle.entries.specs.declared.kinds.Kind.{Kind}
+use Rattle.entries.specs.declared.kinds.Kind.the-variants as kind
+use Rattle.rules.specs.Formulas.{billed, interest}
+use Rattle.rules.specs.Moves.{settles, leaves}
+use Rattle.history.specs.History.{History, is, naming, names, found, find, Fate, firstStanding, posted, refundOf, refunded, expired, restated, change, fate, Balance, Move, stays, charges, credits, refunds, deposits, returns, retains, restates, moved, moveBy, balance, Amounts, answered, amounts, judge, total, contributed, deposited, standingBill, standingPayment, heldOf, addedUp, toArrears, refundsPaid}
+use Rattle.history.specs.Laws.{Valid, empty, joins, In, newest, older, Conserved, Divided}
+use Rattle.history.proofs.Accept.{accepts, Sort, as-contribution, as-added, as-bill, as-payment, as-deposit, as-return, as-expiry, as-correction, sorted, Role, alone, upon, role}
+use Rattle.history.proofs.Names.{pointed, hit, unnamed, no-customers, Misses, none, miss, Hits, first, later, plain, misses-kind, hits, names-found, names-points, fate-miss, fate-hit, customers-miss, customers-hit, customers-other}
+use Rattle.history.proofs.Moves.{move-contribution, move-bill, move-payment, move-deposit, move-return, move-added, move-expiry, move-bill-correction, move-payment-correction}
+
+-- a sum as the history grows, whatever is read off the entries
+module _ (f : Kind → Raw → Fate → ℕ) (c : Raw) (h : History) (a : ℕ) where
+  pub total-miss : {g : History} → Misses c g → total f (c ∷ h) g a ≡ total f h g a
+  unfolding total
+  total-miss none = refl
+  total-miss (miss {x} {g} e m) = rw (fate-miss c h x e, total-miss m)
+
+  pub total-hit : {i : ℕ} {e : Raw} {g : History} → Hits c i e g →
+      total f (c ∷ h) g a + cond (eqb (e .account) a) (f (kindOf (e .kind)) e (fate h e)) 0 ≡
+      total f h g a + cond (eqb (e .account) a) (f (kindOf (e .kind)) e (change (kindOf (c .kind)) c e (fate h e))) 0
+  unfolding total
+  total-hit {e = e} (first {x} {g} n s l m) = rw (← s, fate-hit c h x n, total-miss m) (omega arith)
+  total-hit (later {x} {g} n t) = rw (fate-miss c h x n) (omega (arith, total-hit t))
+
+-- a posted entry's fate, of a kind
+abbrev pub postedAs : Kind → Raw → Fate
+postedAs k e = record { held = e .amount; retained = 0; added = 0; closed = false; standing = firstStanding k e; corrected = false }
+
+-- the five sums over entries
+record Sums : Type 0 where
+  contributed : ℕ
+  paid : ℕ
+  deposited : ℕ
+  billed : ℕ
+  held : ℕ
+
+abbrev each : ((Kind → Raw → Fate → ℕ) → ℕ) → Sums
+each s = record { contributed = s contributed; paid = s standingPayment; deposited = s deposited; billed = s standingBill; held = s heldOf }
+
+-- how the sums move: the entry's own part is added, and of what it names the new part takes the old one's place
+record Shifted (s s′ own old new : Sums) : Type 0 where
+  contributed : s′ .contributed + old .contributed ≡ own .contributed + s .contributed + new .contributed
+  paid : s′ .paid + old .paid ≡ own .paid + s .paid + new .paid
+  deposited : s′ .deposited + old .deposited ≡ own .deposited + s .deposited + new .deposited
+  billed : s′ .billed + old .billed ≡ own .billed + s .billed + new .billed
+  held : s′ .held + old .held ≡ own .held + s .held + new .held
+
+abbrev shift : (s s′ own old new : (Kind → Raw → Fate → ℕ) → ℕ) →
+    ((f : Kind → Raw → Fate → ℕ) → s′ f + old f ≡ own f + s f + new f) → Shifted (each s) (each s′) (each own) (each old) (each new)
+shift s s′ own old new e =
+    record { contributed = e contributed; paid = e standingPayment; deposited = e deposited; billed = e standingBill; held = e heldOf }
+
+-- the amounts added up posting by posting
+abbrev plus : Amounts → Amounts → Amounts
+plus x u =
+    record {
+      settled = x .settled + u .settled;
+      paidOut = x .paidOut + u .paidOut;
+      retained = x .retained + u .retained;
+      interest = x .interest + u .interest;
+    }
+
+abbrev Law : Sums → Amounts → Balance → Type 0
+Law s u b =
+    s .contributed + s .paid + s .deposited + u .interest + b .arrears
+    ≡ s .billed + u .paidOut + u .retained + s .held + b .deposit + b .credit
+
+abbrev nil : Sums
+nil = each (λ f. 0)
+
+-- the law, move by move, on plain numbers
+module _ (s s′ : Sums) (u : Amounts) (b : Balance) (l : Law s u b) (r : Raw) where
+  abbrev After : Move → Type 0
+  After m = Law s′ (plus (answered m b) u) (moved m b)
+
+  n-contribution : (g : Fate) → g .held ≡ r .amount → Shifted s s′ (each (λ f. f kind.Contribution r g)) nil nil → After stays
+  n-contribution g q m = omega arith
+
+  n-bill : (g : Fate) (x : ℕ) → g .standing ≡ x → Shifted s s′ (each (λ f. f kind.Bill r g)) nil nil → After (charges x)
+  n-bill g x q m = omega arith
+
+  n-payment : (g : Fate) → g .standing ≡ r .amount → Shifted s s′ (each (λ f. f kind.Payment r g)) nil nil → After (credits (r .amount))
+  n-payment g q m = omega arith
+
+  n-deposit : (g : Fate) (rate day : ℕ) → b .deposit ≡ 0 → Shifted s s′ (each (λ f. f kind.Deposit r g)) nil nil →
+      After (deposits (r .amount) rate day)
+  n-deposit g rate day q m = omega arith
+
+  n-return : (g : Fate) (i : ℕ) → Shifted s s′ (each (λ f. f kind.DepositReturn r g)) nil nil → After (returns i)
+  n-return g i m = omega arith
+
+  module _ (e : Raw) (f′ g : Fate) where
+    n-added : (x : ℕ) → x ≤ g .held →
+        Shifted s s′ (each (λ f. f kind.AddedCustomer r f′)) (each (λ f. f kind.Contribution e g)) (each (λ f. f kind.Contribution e (refunded x g))) →
+        After (refunds x)
+    n-added x q m = omega arith
+
+    n-expiry : Shifted s s′ (each (λ f. f kind.Expiry r f′)) (each (λ f. f kind.Contribution e g)) (each (λ f. f kind.Contribution e (expired g))) →
+        After (retains (g .held))
+    n-expiry m = omega arith
+
+    n-bill-correction : (o : Bool) → leb (g .standing) (r .amount) ≡ o →
+        Shifted s s′ (each (λ f. f kind.Correction r f′)) (each (λ f. f kind.Bill e g)) (each (λ f. f kind.Bill e (restated (r .amount) g))) →
+        After (cond o (charges (r .amount - g .standing)) (credits (g .standing - r .amount)))
+    n-bill-correction true t m = omega (arith, leb-true (g .standing) (r .amount) t)
+    n-bill-correction false t m = omega (arith, leb-false (g .standing) (r .amount) t)
+
+    n-payment-correction : (o : Bool) → leb (r .amount) (g .standing) ≡ o →
+        Shifted s s′ (each (λ f. f kind.Correction r f′)) (each (λ f. f kind.Payment e g)) (each (λ f. f kind.Payment e (restated (r .amount) g))) →
+        After (cond o (charges (g .standing - r .amount)) (credits (r .amount - g .standing)))
+    n-payment-correction true t m = omega (arith, leb-true (r .amount) (g .standing) t)
+    n-payment-correction false t m = omega (arith, leb-false (r .amount) (g .standing) t)
+
+module _ {h : History} (v : Valid h) (r : Raw) (j : judge h r ≡ 0) (a : ℕ) where
+  -- the sums over the older entries after one that names nothing, and after one that does
+  changed : naming (kindOf (r .kind)) ≡ true → (i : ℕ) (e : Raw) → find h r ≡ found i e → (f : Kind → Raw → Fate → ℕ) →
+      total f (r ∷ h) h a + cond (eqb (r .account) a) (f (kindOf (e .kind)) e (fate h e)) 0 ≡
+      total f h h a + cond (eqb (r .account) a) (f (kindOf (e .kind)) e (change (kindOf (r .kind)) r e (fate h e))) 0
+  changed k i e q f =
+      subst (λ (n : ℕ). total f (r ∷ h) h a + cond (eqb n a) (f (kindOf (e .kind)) e (fate h e)) 0 ≡
+      total f h h a + cond (eqb n a) (f (kindOf (e .kind)) e (change (kindOf (r .kind)) r e (fate h e))) 0)
+      (pointed r e (hit v r i e q .aimed) .account) (total-hit f r h a (hits v r i e k q))
+
+  -- another account's sums stay
+  still : eqb (r .account) a ≡ false → Role h r → (f : Kind → Raw → Fate → ℕ) → total f (r ∷ h) (r ∷ h) a ≡ total f h h a
+  unfolding total
+  still t (alone k) f = rw t (omega (arith, total-miss f r h a (misses-kind r k h)))
+  still t (upon k i e q) f = rw t (omega (arith, rw t at (changed k i e q f)))
+
+  added-still : eqb (r .account) a ≡ false → (f : Amounts → ℕ) → addedUp f (r ∷ h) a ≡ addedUp f h a
+  unfolding addedUp
+  added-still t f = rw t (omega arith)
+
+  elsewhere : eqb (r .account) a ≡ false → balance (r ∷ h) a ≡ balance h a
+  unfolding balance
+  elsewhere t = rw t
+
+-- on the entry's own account
+module _ {h : History} (v : Valid h) (r : Raw) (j : judge h r ≡ 0) where
+  private-same : eqb (r .account) (r .account) ≡ true
+  private-same = eq-eqb (r .account) (r .account) refl
+
+  abbrev sums : History → Sums
+  sums g = each (λ f. total f g g (r .account))
+
+  abbrev ups : History → Amounts
+  ups g =
+      record {
+        settled = addedUp (λ (x : Amounts). x .settled) g (r .account);
+        paidOut = addedUp (λ (x : Amounts). x .paidOut) g (r .account);
+        retained = addedUp (λ (x : Amounts). x .retained) g (r .account);
+        interest = addedUp (λ (x : Amounts). x .interest) g (r .account);
+      }
+
+  abbrev b : Balance
+  b = balance h (r .account)
+
+  here-plain : naming (kindOf (r .kind)) ≡ false → Shifted (sums h) (sums (r ∷ h)) (each (λ f. f (kindOf (r .kind)) r (posted r))) nil nil
+  unfolding total
+  here-plain k =
+      shift (λ f. total f h h (r .account)) (λ f. total f (r ∷ h) (r ∷ h) (r .account)) (λ f. f (kindOf (r .kind)) r (posted r)) (λ f. 0) (λ f. 0)
+      (λ f. rw (private-same, total-miss f r h (r .account) (misses-kind r k h), fate-miss r h r (plain r r k), unnamed v r (accepts h r j .serial-above)) (omega arith))
+
+  here-named : naming (kindOf (r .kind)) ≡ true → (i : ℕ) (e : Raw) → find h r ≡ found i e →
+      Shifted (sums h) (sums (r ∷ h)) (each (λ f. f (kindOf (r .kind)) r (fate (r ∷ h) r))) (each (λ f. f (kindOf (e .kind)) e (fate h e)))
+      (each (λ f. f (kindOf (e .kind)) e (change (kindOf (r .kind)) r e (fate h e))))
+  unfolding total
+  here-named k i e q =
+      shift (λ f. total f h h (r .account)) (λ f. total f (r ∷ h) (r ∷ h) (r .account)) (λ f. f (kindOf (r .kind)) r (fate (r ∷ h) r))
+      (λ f. f (kindOf (e .kind)) e (fate h e)) (λ f. f (kindOf (e .kind)) e (change (kindOf (r .kind)) r e (fate h e)))
+      (λ f. rw private-same (let c = rw private-same at (changed v r j (r .account) k i e q f) in omega arith))
+
+  balance-after : balance (r ∷ h) (r .account) ≡ moved (moveBy h r b) b
+  unfolding balance
+  balance-after = rw private-same
+
+  added-after : (f : Amounts → ℕ) → addedUp f (r ∷ h) (r .account) ≡ f (answered (moveBy h r b) b) + addedUp f h (r .account)
+  unfolding addedUp amounts
+  added-after f = rw private-same
+
+  from-move : (m : Move) → moveBy h r b ≡ m → Law (sums (r ∷ h)) (plus (answered m b) (ups h)) (moved m b) → Conserved (r ∷ h) (r .account)
+  from-move m q l =
+      rw (balance-after, added-after (λ (x : Amounts). x .interest), added-after (λ (x : Amounts). x .paidOut), added-after (λ (x : Amounts). x .retained), q) l
+
+  own : Conserved h (r .account) → Sort h r → Conserved (r ∷ h) (r .account)
+  own l (as-contribution k) =
+      from-move stays (move-contribution h r b k)
+      (n-contribution (sums h) (sums (r ∷ h)) (ups h) b l r (posted r) refl (rw k at (here-plain (ap naming k))))
+  own l (as-added k i e f c d) =
+      let x = refundOf r e (fate h e) in
+      from-move (refunds x) (move-added h r b i e f k)
+      (n-added (sums h) (sums (r ∷ h)) (ups h) b l r e (fate (r ∷ h) r) (fate h e) x (omega arith) (rw (k, c) at (here-named (ap naming k) i e f)))
+  own l (as-bill k) =
+      from-move (charges (billed (r .amount) (r .b) (r .a))) (move-bill h r b k)
+      (n-bill (sums h) (sums (r ∷ h)) (ups h) b l r (postedAs kind.Bill r) (billed (r .amount) (r .b) (r .a)) refl (rw k at (here-plain (ap naming k))))
+  own l (as-payment k) =
+      from-move (credits (r .amount)) (move-payment h r b k)
+      (n-payment (sums h) (sums (r ∷ h)) (ups h) b l r (postedAs kind.Payment r) refl (rw k at (here-plain (ap naming k))))
+  own l (as-deposit k n a) =
+      from-move (deposits (r .amount) (r .a) (r .day)) (move-deposit h r b k)
+      (n-deposit (sums h) (sums (r ∷ h)) (ups h) b l r (posted r) (r .a) (r .day) n (rw k at (here-plain (ap naming k))))
+  own l (as-return k) =
+      let x = interest (b .deposit) (b .rate) (r .day - b .deposited) in
+      from-move (returns x) (move-return h r b k)
+      (n-return (sums h) (sums (r ∷ h)) (ups h) b l r (posted r) x (rw k at (here-plain (ap naming k))))
+  own l (as-expiry k i e f c o) =
+      from-move (retains (fate h e .held)) (move-expiry h r b i e f k)
+      (n-expiry (sums h) (sums (r ∷ h)) (ups h) b l r e (fate (r ∷ h) r) (fate h e) (rw (k, c) at (here-named (ap naming k) i e f)))
+  own l (as-correction k i e f true c u) =
+      from-move (restates (fate h e .standing) (r .amount)) (move-bill-correction h r b i e f k c)
+      (n-bill-correction (sums h) (sums (r ∷ h)) (ups h) b l r e (fate (r ∷ h) r) (fate h e) (leb (fate h e .standing) (r .amount)) refl
+      (rw (k, c) at (here-named (ap naming k) i e f)))
+  own l (as-correction k i e f false c u) =
+      from-move (restates (r .amount) (fate h e .standing)) (move-payment-correction h r b i e f k c)
+      (n-payment-correction (sums h) (sums (r ∷ h)) (ups h) b l r e (fate (r ∷ h) r) (fate h e) (leb (r .amount) (fate h e .standing)) refl
+      (rw (k, c) at (here-named (ap naming k) i e f)))
+
+pub conserve : {h : History} → Valid h → (a : ℕ) → Conserved h a
+unfolding total addedUp balance
+conserve empty a = refl
+conserve (joins {r} {h} v j) a = go (λ n. conserve v n) (eqb (r .account) a) refl
+  where
+    go : ((n : ℕ) → Conserved h n) → (t : Bool) → eqb (r .account) a ≡ t → Conserved (r ∷ h) a
+    go ih true t = subst (λ (n : ℕ). Conserved (r ∷ h) n) (eqb-true (r .account) a t) (own v r j (ih (r .account)) (sorted h r j))
+    go ih false t =
+        let s = still v r j a t (role h r (sorted h r j)) in
+        let u = added-still v r j a t in
+        rw (elsewhere v r j a t, s contributed, s standingPayment, s deposited, s standingBill, s heldOf, u (λ (x : Amounts). x .interest), u (λ (x : Amounts). x .paidOut), u (λ (x : Amounts). x .retained))
+        (ih a)
+
+-- EACH CONTRIBUTION
+-- what is not closed has nothing retained
+open-change : (k : Kind) (c e : Raw) (f : Fate) → (f .closed ≡ false → f .retained ≡ 0) → change k c e f .closed ≡ false → change k c e f .retained ≡ 0
+open-change kind.Unknown c e f ih t = ih t
+open-change kind.Contribution c e f ih t = ih t
+open-change kind.AddedCustomer c e f ih t = ih t
+open-change kind.Bill c e f ih t = ih t
+open-change kind.Payment c e f ih t = ih t
+open-change kind.Deposit c e f ih t = ih t
+open-change kind.DepositReturn c e f ih t = ih t
+open-change kind.Expiry c e f ih t = absurd (true≢false t)
+open-change kind.Correction c e f ih t = ih t
+
+still-open : (h : History) (e : Raw) → fate h e .closed ≡ false → fate h e .retained ≡ 0
+unfolding fate
+still-open [] e t = refl
+still-open (c ∷ h) e t = go (λ q. still-open h e q) (names c e) t
+  where
+    go : (fate h e .closed ≡ false → fate h e .retained ≡ 0) → (u : Bool) →
+        cond u (change (kindOf (c .kind)) c e (fate h e)) (fate h e) .closed ≡ false →
+        cond u (change (kindOf (c .kind)) c e (fate h e)) (fate h e) .retained ≡ 0
+    go ih true q = open-change (kindOf (c .kind)) c e (fate h e) ih q
+    go ih false q = ih q
+
+module _ {h : History} (v : Valid h) (r : Raw) (j : judge h r ≡ 0) where
+  -- the contribution that joins
+  divided-new : kindOf (r .kind) ≡ kind.Contribution → Divided (r ∷ h) r
+  divided-new k =
+      let fresh = accepts h r j .serial-above in
+      rw (
+        fate-miss r h r (plain r r (ap naming k)),
+        unnamed v r fresh,
+        customers-other (λ (x : Amounts). x .settled) r h r (ap (λ (l : Kind). is l kind.AddedCustomer) k),
+        customers-other (λ (x : Amounts). x .paidOut) r h r (ap (λ (l : Kind). is l kind.AddedCustomer) k),
+        no-customers v (λ (x : Amounts). x .settled) r fresh,
+        no-customers v (λ (x : Amounts). x .paidOut) r fresh,
+      )
+      (omega arith)
+
+  divided-miss : (e : Raw) → names r e ≡ false → Divided h e → Divided (r ∷ h) e
+  divided-miss e n l =
+      rw (fate-miss r h e n, customers-miss (λ (x : Amounts). x .settled) r h e n, customers-miss (λ (x : Amounts). x .paidOut) r h e n) l
+
+  n-refunded : (own x arrears paid old held retained : ℕ) → own ≡ paid + old + held + retained → x ≤ held →
+      own ≡ (settles x arrears + paid) + (leaves x arrears + old) + (held - x) + retained
+  n-refunded own x arrears paid old held retained l q = omega arith
+
+  divided-added : (e : Raw) (i : ℕ) → kindOf (r .kind) ≡ kind.AddedCustomer → find h r ≡ found i e → Divided h e → Divided (r ∷ h) e
+  unfolding amounts
+  divided-added e i k f l =
+      let p = hit v r i e f .aimed in
+      let b = balance h (r .account) in
+      let x = refundOf r e (fate h e) in
+      rw (
+        fate-hit r h e (names-points r e (ap naming k) p),
+        customers-hit (λ (x : Amounts). x .settled) r h e k p,
+        customers-hit (λ (x : Amounts). x .paidOut) r h e k p,
+        move-added h r b i e f k,
+        k,
+      )
+      (n-refunded (e .amount) x (b .arrears) (toArrears h e) (refundsPaid h e) (fate h e .held) (fate h e .retained) l (omega arith))
+
+  divided-expired : (e : Raw) → kindOf (r .kind) ≡ kind.Expiry → names r e ≡ true → fate h e .closed ≡ false → Divided h e → Divided (r ∷ h) e
+  divided-expired e k n o l =
+      rw (fate-hit r h e n, customers-other (λ (x : Amounts). x .settled) r h e (ap (λ (l : Kind). is l kind.AddedCustomer) k), customers-other (λ (x : Amounts). x .paidOut) r h e (ap (λ (l : Kind). is l kind.AddedCustomer) k), k)
+      (omega (arith, still-open h e o))
+
+  divided-hit : (e : Raw) → In e h → kindOf (e .kind) ≡ kind.Contribution → names r e ≡ true → Divided h e → Sort h r → Divided (r ∷ h) e
+  divided-hit e m c n l (as-contribution k) = absurd (true≢false (sym n ∙ plain r e (ap naming k)))
+  divided-hit e m c n l (as-added k i x f q d) =
+      let same : e ≡ x = names-found v r i x (ap naming k) f e m n in
+      divided-added e i k (f ∙ ap (λ y. found i y) (sym same)) l
+  divided-hit e m c n l (as-bill k) = absurd (true≢false (sym n ∙ plain r e (ap naming k)))
+  divided-hit e m c n l (as-payment k) = absurd (true≢false (sym n ∙ plain r e (ap naming k)))
+  divided-hit e m c n l (as-deposit k z a) = absurd (true≢false (sym n ∙ plain r e (ap naming k)))
+  divided-hit e m c n l (as-return k) = absurd (true≢false (sym n ∙ plain r e (ap naming k)))
+  divided-hit e m c n l (as-expiry k i x f q o) =
+      let same : e ≡ x = names-found v r i x (ap naming k) f e m n in
+      divided-expired e k n (subst (λ y. fate h y .closed ≡ false) (sym same) o) l
+  divided-hit e m c n l (as-correction k i x f true q u) =
+      let same : e ≡ x = names-found v r i x (ap naming k) f e m n in
+      let other : kindOf (e .kind) ≡ kind.Bill = subst (λ (y : Raw). kindOf (y .kind) ≡ kind.Bill) (sym same) q in
+      let z : _≡_ {A = ℕ} 0 1 = cc in
+      absurd (omega arith)
+  divided-hit e m c n l (as-correction k i x f false q u) =
+      let same : e ≡ x = names-found v r i x (ap naming k) f e m n in
+      let other : kindOf (e .kind) ≡ kind.Payment = subst (λ (y : Raw). kindOf (y .kind) ≡ kind.Payment) (sym same) q in
+      let z : _≡_ {A = ℕ} 0 1 = cc in
+      absurd (omega arith)
+
+pub divide : {h : History} → Valid h → (e : Raw) → In e h → kindOf (e .kind) ≡ kind.Contribution → Divided h e
+divide (joins {r} {h} v j) e (newest q) c =
+    subst (λ y. Divided (r ∷ h) y) q (divided-new v r j (subst (λ (y : Raw). kindOf (y .kind) ≡ kind.Contribution) (sym q) c))
+divide (joins {r} {h} v j) e (older t) c = go (divide v e t c) (names r e) refl
+  where
+    go : Divided h e → (u : Bool) → names r e ≡ u → Divided (r ∷ h) e
+    go l true n = divided-hit v r j e t c n l (sorted h r j)
+    go l false n = divided-miss v r j e n l

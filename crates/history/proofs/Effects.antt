@@ -1,0 +1,179 @@
+-- What an entry of each kind does in the book is what it does in the history, where no sum reaches a limit.
+use mathlib.Core.Path.{_≡_, refl, ap}
+use Prim.Native.Nat.{ℕ, _+_, _-_, min, _≤_, _<_}
+use native.Mathlib.Omega.{arith}
+use native.Mathlib.Nat.{min-eq-left}
+use mathlib.Core.Bool.{Bool, true, false, cond}
+use lib.Dec.{leb}
+use borrow.Author.Tests.{leb-true, leb-false}
+use Rattle.measures.specs.Cents.{cents, most}
+use Rattle.measures.specs.Days.{day}
+use Rattle.entries.specs.Ranges.{amountMost}
+use Rattle.entries.specs.Entries.{metres, namedOf, refundedOf, expiredOf, restatedOf}
+use Rattle.entries.specs.declared.raw.Raw.{Raw}
+use Rattle.entries.specs.declared.kinds.Kind.the-variants as kind
+use Rattle.entries.specs.declared.data.Data.{Data}
+use Rattle.entries.specs.declared.data.Data.the-variants as data′
+use Rattle.rules.specs.Moves.{settles, leaves, covers, owes}
+use Rattle.rules.specs.Formulas.{billed, interest}
+use Rattle.rules.specs.Accounts.{accountOf, creditedOf, keptOf, chargedOf, holdingOf}
+use Rattle.rules.specs.Answers.{amountsOf}
+use Rattle.rules.specs.Changes.{changeOf, contributionOf, addedCustomerOf, billOf, paymentOf, depositOf, depositReturnOf, expiryOf, correctionOf, effectOf}
+use Rattle.rules.specs.declared.accounts.Credited.{Credited}
+use Rattle.rules.specs.declared.answers.Amounts as four′
+use Rattle.rules.specs.declared.changes.Found.{Found}
+use Rattle.rules.specs.declared.changes.Found.the-variants.{At, Nothing}
+use Rattle.rules.specs.declared.changes.Change.{Change}
+use Rattle.rules.specs.declared.changes.Outcome.the-variants.{Accepted}
+use Rattle.rules.proofs.Plain.{plain}
+use Rattle.history.specs.History.{lastDay, Fate, posted, refundOf, refunded, expired, restated, Balance, Move, stays, charges, credits, refunds, deposits, returns, retains, moved, Amounts, answered}
+use Rattle.history.specs.Agreement.{keptAccount, keptData}
+
+abbrev pub keptAmounts : Amounts → four′.Amounts
+keptAmounts x = amountsOf (cents (x .settled)) (cents (x .paidOut)) (cents (x .retained)) (cents (x .interest))
+
+-- the change that a move makes
+abbrev pub changeBy : Move → Balance → ℕ → Data → Found → Data → Change
+changeBy m b newest d names named = changeOf (keptAccount (moved m b) newest) d names named (keptAmounts (answered m b))
+
+fits : (n : ℕ) → n ≤ most → min n most ≡ n
+fits n l = min-eq-left l
+
+same-account : (a a′ c c′ deposit rate on newest : ℕ) → a ≡ a′ → c ≡ c′ →
+    accountOf (cents a) (cents c) (cents deposit) rate (day on) newest ≡ accountOf (cents a′) (cents c′) (cents deposit) rate (day on) newest
+same-account a a′ c c′ deposit rate on newest p q = rw (p, q) refl
+
+-- an account's moves on plain numbers
+module _ (b : Balance) (newest : ℕ) where
+  charged-plain : (x : ℕ) → b .arrears + x ≤ most → chargedOf (keptAccount b newest) (cents x) ≡ keptAccount (moved (charges x) b) newest
+  unfolding chargedOf
+  charged-plain x l = rw (fits (b .arrears + owes x (b .credit)) (omega arith)) refl
+
+  kept-plain : (x : ℕ) → b .credit + x ≤ most →
+      keptOf (creditedOf (keptAccount b newest) (cents x) .account) (creditedOf (keptAccount b newest) (cents x) .left) ≡ keptAccount (moved (credits x) b) newest
+  unfolding keptOf creditedOf
+  kept-plain x l = rw (fits (b .credit + leaves x (b .arrears)) (omega arith)) refl
+
+  -- of a charge and a credit one is 0
+  abbrev both : ℕ → ℕ → Credited
+  both up down = creditedOf (chargedOf (keptAccount b newest) (cents up)) (cents down)
+
+  both-charge : (up down : ℕ) → down ≡ 0 → b .arrears + up ≤ most → b .credit ≤ most →
+      keptOf (both up down .account) (both up down .left) ≡ keptAccount (moved (charges up) b) newest
+  unfolding keptOf creditedOf chargedOf
+  both-charge up down z l m =
+      rw (z, fits (b .arrears + owes up (b .credit)) (omega arith))
+      (same-account _ _ _ _ (b .deposit) (b .rate) (b .deposited) newest (omega arith) (omega arith))
+
+  both-credit : (up down : ℕ) → up ≡ 0 → b .arrears ≤ most → b .credit + down ≤ most →
+      keptOf (both up down .account) (both up down .left) ≡ keptAccount (moved (credits down) b) newest
+  unfolding keptOf creditedOf chargedOf
+  both-credit up down z l m =
+      let owed : min (b .arrears + owes 0 (b .credit)) most ≡ b .arrears = omega arith in
+      let left : b .credit - covers 0 (b .credit) ≡ b .credit = omega arith in
+      rw (z, owed, left, fits (b .credit + leaves down (b .arrears)) (omega arith)) refl
+
+  settled-none : (up down : ℕ) → down ≡ 0 → both up down .settled ≡ cents 0
+  unfolding creditedOf
+  settled-none up down z = ap cents (omega arith)
+
+  settled-some : (up down : ℕ) → up ≡ 0 → b .arrears ≤ most → both up down .settled ≡ cents (settles down (b .arrears))
+  unfolding creditedOf chargedOf
+  settled-some up down z l = ap cents (let owed : min (b .arrears + owes up (b .credit)) most ≡ b .arrears = omega arith in rw owed refl)
+
+-- EFFECTS, KIND BY KIND
+module _ (r : Raw) (b : Balance) (newest : ℕ) (f : Found) (d : Data) where
+  pub contribution-effect : effectOf r kind.Contribution (keptAccount b newest) f d ≡
+      Accepted (changeBy stays b newest (keptData kind.Contribution r (posted r) 0 0) Nothing data′.Unused)
+  unfolding effectOf contributionOf
+  contribution-effect = refl
+
+  pub bill-effect : (g : Fate) → r .amount ≤ amountMost → r .b ≤ 255 → b .arrears + billed (r .amount) (r .b) (r .a) ≤ most →
+      g .standing ≡ billed (r .amount) (r .b) (r .a) → g .corrected ≡ false →
+      effectOf r kind.Bill (keptAccount b newest) f d ≡
+      Accepted (changeBy (charges (billed (r .amount) (r .b) (r .a))) b newest (keptData kind.Bill r g 0 0) Nothing data′.Unused)
+  unfolding effectOf billOf
+  bill-effect g p q l s c =
+      rw (plain .bill (r .amount) (r .b) (r .a) p q, charged-plain b newest (billed (r .amount) (r .b) (r .a)) l, s, c) refl
+
+  pub payment-effect : (g : Fate) → b .credit + r .amount ≤ most → g .standing ≡ r .amount → g .corrected ≡ false →
+      effectOf r kind.Payment (keptAccount b newest) f d ≡
+      Accepted (changeBy (credits (r .amount)) b newest (keptData kind.Payment r g 0 0) Nothing data′.Unused)
+  unfolding effectOf paymentOf creditedOf
+  payment-effect g l s c = rw (kept-plain b newest (r .amount) l, s, c) refl
+
+  pub deposit-effect : effectOf r kind.Deposit (keptAccount b newest) f d ≡
+      Accepted (changeBy (deposits (r .amount) (r .a) (r .day)) b newest (keptData kind.Deposit r (posted r) 0 0) Nothing data′.Unused)
+  unfolding effectOf depositOf holdingOf
+  deposit-effect = refl
+
+  pub return-effect : b .deposit ≤ amountMost → b .rate ≤ 2000 → r .day ≤ lastDay →
+      b .deposit + interest (b .deposit) (b .rate) (r .day - b .deposited) ≤ most →
+      effectOf r kind.DepositReturn (keptAccount b newest) f d ≡
+      Accepted
+      (changeBy (returns (interest (b .deposit) (b .rate) (r .day - b .deposited))) b newest (keptData kind.DepositReturn r (posted r) 0 0) Nothing data′.Unused)
+  unfolding effectOf depositReturnOf creditedOf holdingOf
+  return-effect p q t l =
+      rw (
+        plain .deposit-return (b .deposit) (b .rate) (r .day - b .deposited) p q (omega arith),
+        fits (b .deposit + interest (b .deposit) (b .rate) (r .day - b .deposited)) l,
+      ) refl
+
+  module _ (e : Raw) (g : Fate) (i s p : ℕ) where
+    pub added-effect : (g′ : Fate) → e .amount ≤ amountMost → r .a ≤ 65535 → g .added < 65535 →
+        settles (refundOf r e g) (b .arrears) + s ≤ most → leaves (refundOf r e g) (b .arrears) + p ≤ most →
+        effectOf r kind.AddedCustomer (keptAccount b newest) (At i) (keptData kind.Contribution e g s p) ≡
+        Accepted
+        (changeBy (refunds (refundOf r e g)) b newest (keptData kind.AddedCustomer r g′ 0 0) (At i)
+        (keptData kind.Contribution e (refunded (refundOf r e g) g) (settles (refundOf r e g) (b .arrears) + s) (leaves (refundOf r e g) (b .arrears) + p)))
+    unfolding effectOf addedCustomerOf creditedOf refundedOf namedOf
+    added-effect g′ m a n x y =
+        let one-more : min (g .added + 1) 65535 ≡ g .added + 1 = min-eq-left (omega arith) in
+        let to : min (s + settles (refundOf r e g) (b .arrears)) most ≡ settles (refundOf r e g) (b .arrears) + s = omega arith in
+        let out : min (p + leaves (refundOf r e g) (b .arrears)) most ≡ leaves (refundOf r e g) (b .arrears) + p = omega arith in
+        rw (plain .added-customer (namedOf (keptData kind.Contribution e g s p)) (metres (r .a)) m a, to, out, one-more) refl
+
+    pub expiry-effect : (g′ : Fate) →
+        effectOf r kind.Expiry (keptAccount b newest) (At i) (keptData kind.Contribution e g s p) ≡
+        Accepted
+        (changeBy (retains (g .held)) b newest (keptData kind.Expiry r g′ 0 0) (At i) (keptData kind.Contribution e (expired g) s p))
+    unfolding effectOf expiryOf expiredOf namedOf
+    expiry-effect g′ = refl
+
+    pub bill-corrected : (g′ : Fate) (o : Bool) → leb (g .standing) (r .amount) ≡ o → b .arrears + r .amount ≤ most → b .credit + g .standing ≤ most →
+        effectOf r kind.Correction (keptAccount b newest) (At i) (keptData kind.Bill e g s p) ≡
+        Accepted
+        (changeBy (cond o (charges (r .amount - g .standing)) (credits (g .standing - r .amount))) b newest (keptData kind.Correction r g′ 0 0) (At i)
+        (keptData kind.Bill e (restated (r .amount) g) s p))
+    unfolding effectOf correctionOf restatedOf namedOf
+    bill-corrected g′ true t l m =
+        let z : g .standing - r .amount ≡ 0 = omega (arith, leb-true (g .standing) (r .amount) t) in
+        rw (
+          both-charge b newest (r .amount - g .standing) (g .standing - r .amount) z (omega arith) (omega arith),
+          settled-none b newest (r .amount - g .standing) (g .standing - r .amount) z,
+        ) refl
+    bill-corrected g′ false t l m =
+        let z : r .amount - g .standing ≡ 0 = omega (arith, leb-false (g .standing) (r .amount) t) in
+        rw (
+          both-credit b newest (r .amount - g .standing) (g .standing - r .amount) z (omega arith) (omega arith),
+          settled-some b newest (r .amount - g .standing) (g .standing - r .amount) z (omega arith),
+        ) refl
+
+    pub payment-corrected : (g′ : Fate) (o : Bool) → leb (r .amount) (g .standing) ≡ o → b .arrears + g .standing ≤ most → b .credit + r .amount ≤ most →
+        effectOf r kind.Correction (keptAccount b newest) (At i) (keptData kind.Payment e g s p) ≡
+        Accepted
+        (changeBy (cond o (charges (g .standing - r .amount)) (credits (r .amount - g .standing))) b newest (keptData kind.Correction r g′ 0 0) (At i)
+        (keptData kind.Payment e (restated (r .amount) g) s p))
+    unfolding effectOf correctionOf restatedOf namedOf
+    payment-corrected g′ true t l m =
+        let z : r .amount - g .standing ≡ 0 = omega (arith, leb-true (r .amount) (g .standing) t) in
+        rw (
+          both-charge b newest (g .standing - r .amount) (r .amount - g .standing) z (omega arith) (omega arith),
+          settled-none b newest (g .standing - r .amount) (r .amount - g .standing) z,
+        ) refl
+    payment-corrected g′ false t l m =
+        let z : g .standing - r .amount ≡ 0 = omega (arith, leb-false (r .amount) (g .standing) t) in
+        rw (
+          both-credit b newest (g .standing - r .amount) (r .amount - g .standing) z (omega arith) (omega arith),
+          settled-some b newest (g .standing - r .amount) (r .amount - g .standing) z (omega arith),
+        ) refl

@@ -1,0 +1,42 @@
+-- The laws of every history that offers give.
+use Prim.Native.Nat.{ℕ, zero, suc}
+use mathlib.Core.Path.{_≡_, refl}
+use mathlib.Core.List.{List, [], _∷_}
+use native.Mathlib.Omega.{arith}
+use Rattle.entries.specs.declared.raw.Raw.{Raw}
+use Rattle.history.specs.History.{History, judge, joined, offer, offers}
+use Rattle.history.specs.Laws.{Valid, empty, joins, Lawful, Laws}
+use Rattle.history.proofs.Accept.{fits}
+use Rattle.history.proofs.Names.{in-period, once}
+use Rattle.history.proofs.Conserve.{conserve, divide}
+use Rattle.history.proofs.Bound.{bounded, added-small}
+
+lawful : (h : History) → Valid h → Lawful h
+lawful h v =
+    record {
+      conserved = λ a. conserve v a;
+      divided = λ e m c. divide v e m c;
+      in-period = λ c e m n k p. in-period v c e m n k p;
+      once = once v;
+      room = fits v;
+      arrears = λ a. omega (arith, fits v, bounded v a .arrears);
+      credit = λ a. omega (arith, fits v, bounded v a .credit);
+      added = λ e. omega (arith, fits v, added-small h e);
+    }
+
+valid-offer : {h : History} → Valid h → (r : Raw) → Valid (offer h r)
+unfolding offer
+valid-offer {h} v r = go (judge h r) refl
+  where
+    go : (n : ℕ) → judge h r ≡ n → Valid (joined n r h)
+    go zero j = joins v j
+    go (suc n) j = v
+
+-- what offers give, from a valid history on
+pub valid-offers : {h : History} → Valid h → (rs : List Raw) → Valid (offers h rs)
+unfolding offers
+valid-offers v [] = v
+valid-offers v (r ∷ rs) = valid-offers (valid-offer v r) rs
+
+pub laws : Laws
+laws = record { valid = λ rs. valid-offers empty rs; lawful = lawful }

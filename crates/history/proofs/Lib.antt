@@ -1,0 +1,14 @@
+pub mod Accept
+pub mod Names
+pub mod Moves
+pub mod Conserve
+pub mod Bound
+pub mod Tables
+pub mod Search
+pub mod Effects
+pub mod Stored
+pub mod Agree
+pub mod Lawful
+pub mod Carry
+pub mod Queries
+pub mod Claim

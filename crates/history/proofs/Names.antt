@@ -1,0 +1,303 @@
+-- What an entry names: at most one entry, older than itself, and none that is still to come.
+use mathlib.Core.Path.{_≡_, refl, sym, ap, _∙_, subst}
+use Prim.Native.Nat.{ℕ, _+_, _≤_, _<_}
+use native.Mathlib.Omega.{arith}
+use mathlib.Core.Bool.{Bool, true, false, cond, not, _&&_, true≢false, and-false}
+use mathlib.Core.List.{[], _∷_}
+use lib.ListN.{length}
+use lib.Dec.{eqb}
+use borrow.Author.Tests.{eqb-true, eq-eqb}
+use Rattle.entries.specs.Kinds.{kindOf}
+use Rattle.entries.specs.declared.raw.Raw.{Raw}
+use Rattle.entries.specs.declared.kinds.Kind.{Kind}
+use Rattle.entries.specs.declared.kinds.Kind.the-variants as kind
+use Rattle.history.specs.History.{period, History, is, lastSerial, naming, points, names, Sought, missing, found, find, Fate, posted, change, fate, Amounts, amounts, judge, ofCustomers}
+use Rattle.history.specs.Laws.{Valid, empty, joins, In, newest, older, Again, Once}
+use Rattle.history.proofs.Accept.{and-left, and-right, accepts, Sort, as-contribution, as-added, as-bill, as-payment, as-deposit, as-return, as-expiry, as-correction, sorted, Role, alone, upon, role}
+
+-- last serials rise
+pub last-up : (h : History) (c : Raw) (n : ℕ) → judge h c ≡ 0 → lastSerial h n ≤ lastSerial (c ∷ h) n
+unfolding lastSerial
+last-up h c n j = go (eqb (c .node) n) refl
+  where
+    go : (t : Bool) → eqb (c .node) n ≡ t → lastSerial h n ≤ cond t (c .serial) (lastSerial h n)
+    go true e =
+        let q : lastSerial h (c .node) ≡ lastSerial h n = ap (λ m. lastSerial h m) (eqb-true _ _ e) in
+        omega (arith, accepts h c j .serial-above)
+    go false e = omega arith
+
+pub last-own : (h : History) (c : Raw) → lastSerial (c ∷ h) (c .node) ≡ c .serial
+unfolding lastSerial
+last-own h c = rw (eq-eqb (c .node) (c .node) refl)
+
+pub record Pointed (c e : Raw) : Type 0 where
+  pub account : e .account ≡ c .account
+  pub node : e .node ≡ c .«named_node»
+  pub serial : e .serial ≡ c .«named_serial»
+
+pub pointed : (c e : Raw) → points c e ≡ true → Pointed c e
+unfolding points
+pointed c e t =
+    let f = and-right (eqb (e .account) (c .account)) _ t in
+    record {
+      account = eqb-true _ _ (and-left (eqb (e .account) (c .account)) _ t);
+      node = eqb-true _ _ (and-left (eqb (e .node) (c .«named_node»)) _ f);
+      serial = eqb-true _ _ (and-right (eqb (e .node) (c .«named_node»)) _ f);
+    }
+
+pub points-at : (c e : Raw) → Pointed c e → points c e ≡ true
+unfolding points
+points-at c e w = simp (eq-eqb _ _ (w .account), eq-eqb _ _ (w .node), eq-eqb _ _ (w .serial))
+
+-- what a search has found
+pub record Hit (h : History) (c : Raw) (i : ℕ) (e : Raw) : Type 0 where
+  pub inside : i < length h
+  pub aimed : points c e ≡ true
+  pub member : In e h
+  pub old : c .«named_serial» ≤ lastSerial h (c .«named_node»)
+
+pub hit : {h : History} → Valid h → (c : Raw) (i : ℕ) (e : Raw) → find h c ≡ found i e → Hit h c i e
+unfolding find
+hit empty c i e f = let z : _≡_ {A = ℕ} 0 1 = cc in absurd (omega arith)
+hit (joins {r} {h} v j) c i e f = go (λ q. hit v c i e q) (points c r) refl f
+  where
+    go : (find h c ≡ found i e → Hit h c i e) → (t : Bool) → points c r ≡ t → cond t (found (length h) r) (find h c) ≡ found i e → Hit (r ∷ h) c i e
+    go ih true p q =
+        let w = pointed c r p in
+        let same : r ≡ e = cc in
+        let place : length h ≡ i = cc in
+        let there : lastSerial (r ∷ h) (c .«named_node») ≡ r .serial = ap (λ n. lastSerial (r ∷ h) n) (sym (w .node)) ∙ last-own h r in
+        record {
+          inside = omega arith;
+          aimed = subst (λ x. points c x ≡ true) same p;
+          member = newest same;
+          old = omega (arith, w .serial);
+        }
+    go ih false p q =
+        let w = ih q in
+        record { inside = omega (arith, w .inside); aimed = w .aimed; member = older (w .member); old = omega (arith, w .old, last-up h r (c .«named_node») j) }
+
+-- an entry whose serial is new: what points at it finds nothing
+pub unfound : {h : History} → Valid h → (c r : Raw) → points c r ≡ true → lastSerial h (r .node) < r .serial → find h c ≡ missing
+unfound {h} v c r p n = go (find h c) refl
+  where
+    go : (s : Sought) → find h c ≡ s → s ≡ missing
+    go missing e = refl
+    go (found i x) e =
+        let w = pointed c r p in
+        let q : lastSerial h (r .node) ≡ lastSerial h (c .«named_node») = ap (λ m. lastSerial h m) (w .node) in
+        absurd (omega (arith, hit v c i x e .old, w .serial))
+
+-- what an accepted entry names is no entry with a newer serial
+pub named-old : {h : History} → Valid h → (c r : Raw) → Role h c → lastSerial h (r .node) < r .serial → names c r ≡ false
+unfolding names
+named-old {h} v c r w n = go (naming (kindOf (c .kind))) refl (points c r) refl
+  where
+    clash : points c r ≡ true → naming (kindOf (c .kind)) ≡ true → Role h c → ⊥
+    clash p k (alone e) = true≢false (sym k ∙ e)
+    clash p k (upon e i x f) =
+        let z : found i x ≡ missing = sym f ∙ unfound v c r p n in
+        let y : _≡_ {A = ℕ} 0 1 = cc in
+        omega arith
+
+    go : (t : Bool) → naming (kindOf (c .kind)) ≡ t → (u : Bool) → points c r ≡ u → (t && u) ≡ false
+    go true k true p = absurd (clash p k w)
+    go true k false p = refl
+    go false k u p = refl
+
+-- an accepted entry does not name itself
+pub not-itself : {h : History} → Valid h → (r : Raw) → judge h r ≡ 0 → names r r ≡ false
+not-itself {h} v r j = named-old v r r (role h r (sorted h r j)) (accepts h r j .serial-above)
+
+-- as the history grows
+pub fate-miss : (c : Raw) (h : History) (x : Raw) → names c x ≡ false → fate (c ∷ h) x ≡ fate h x
+unfolding fate
+fate-miss c h x e = rw e
+
+pub fate-hit : (c : Raw) (h : History) (x : Raw) → names c x ≡ true → fate (c ∷ h) x ≡ change (kindOf (c .kind)) c x (fate h x)
+unfolding fate
+fate-hit c h x e = rw e
+
+naming-added : (k : Kind) (t : Bool) → naming k && t ≡ false → is k kind.AddedCustomer && t ≡ false
+naming-added kind.Unknown t e = refl
+naming-added kind.Contribution t e = refl
+naming-added kind.AddedCustomer t e = e
+naming-added kind.Bill t e = refl
+naming-added kind.Payment t e = refl
+naming-added kind.Deposit t e = refl
+naming-added kind.DepositReturn t e = refl
+naming-added kind.Expiry t e = refl
+naming-added kind.Correction t e = refl
+
+pub customers-miss : (f : Amounts → ℕ) (c : Raw) (h : History) (x : Raw) → names c x ≡ false → ofCustomers f (c ∷ h) x ≡ ofCustomers f h x
+unfolding ofCustomers names
+customers-miss f c h x e = rw (naming-added (kindOf (c .kind)) (points c x) e) (omega arith)
+
+pub customers-hit : (f : Amounts → ℕ) (c : Raw) (h : History) (x : Raw) → kindOf (c .kind) ≡ kind.AddedCustomer → points c x ≡ true →
+    ofCustomers f (c ∷ h) x ≡ f (amounts h c) + ofCustomers f h x
+unfolding ofCustomers
+customers-hit f c h x k p = rw (k, p)
+
+pub customers-other : (f : Amounts → ℕ) (c : Raw) (h : History) (x : Raw) → is (kindOf (c .kind)) kind.AddedCustomer ≡ false →
+    ofCustomers f (c ∷ h) x ≡ ofCustomers f h x
+unfolding ofCustomers
+customers-other f c h x k = rw k (omega arith)
+
+-- an entry whose serial is new has the fate of a posted one
+pub unnamed : {h : History} → Valid h → (r : Raw) → lastSerial h (r .node) < r .serial → fate h r ≡ posted r
+unfolding fate
+unnamed empty r n = refl
+unnamed (joins {r = c} {h} v j) r n =
+    let before : lastSerial h (r .node) < r .serial = omega (arith, last-up h c (r .node) j) in
+    fate-miss c h r (named-old v c r (role h c (sorted h c j)) before) ∙ unnamed v r before
+
+pub no-customers : {h : History} → Valid h → (f : Amounts → ℕ) (r : Raw) → lastSerial h (r .node) < r .serial → ofCustomers f h r ≡ 0
+unfolding ofCustomers
+no-customers empty f r n = refl
+no-customers (joins {r = c} {h} v j) f r n =
+    let before : lastSerial h (r .node) < r .serial = omega (arith, last-up h c (r .node) j) in
+    customers-miss f c h r (named-old v c r (role h c (sorted h c j)) before) ∙ no-customers v f r before
+
+-- c names nothing of a list
+pub data Misses (c : Raw) : History → Type 0 where
+  none : Misses c []
+  miss : {x : Raw} {g : History} → names c x ≡ false → Misses c g → Misses c (x ∷ g)
+
+-- c names one entry of a list, e, with i older entries, and no other
+pub data Hits (c : Raw) (i : ℕ) (e : Raw) : History → Type 0 where
+  first : {x : Raw} {g : History} → names c x ≡ true → x ≡ e → length g ≡ i → Misses c g → Hits c i e (x ∷ g)
+  later : {x : Raw} {g : History} → names c x ≡ false → Hits c i e g → Hits c i e (x ∷ g)
+
+pub plain : (c x : Raw) → naming (kindOf (c .kind)) ≡ false → names c x ≡ false
+unfolding names
+plain c x k = rw k
+
+pub misses-kind : (c : Raw) → naming (kindOf (c .kind)) ≡ false → (g : History) → Misses c g
+misses-kind c k [] = none
+misses-kind c k (x ∷ g) = miss (plain c x k) (misses-kind c k g)
+
+not-pointed : (c x : Raw) → points c x ≡ false → names c x ≡ false
+unfolding names
+not-pointed c x p = rw p (and-false (naming (kindOf (c .kind))))
+
+pub misses-find : (c : Raw) (g : History) → find g c ≡ missing → Misses c g
+unfolding find
+misses-find c [] f = none
+misses-find c (x ∷ g) f = go (λ q. misses-find c g q) (points c x) refl f
+  where
+    go : (find g c ≡ missing → Misses c g) → (t : Bool) → points c x ≡ t → cond t (found (length g) x) (find g c) ≡ missing → Misses c (x ∷ g)
+    go ih true p q = let z : _≡_ {A = ℕ} 0 1 = cc in absurd (omega arith)
+    go ih false p q = miss (not-pointed c x p) (ih q)
+
+pub hits : {g : History} → Valid g → (c : Raw) (i : ℕ) (e : Raw) → naming (kindOf (c .kind)) ≡ true → find g c ≡ found i e → Hits c i e g
+unfolding find names
+hits empty c i e k f = let z : _≡_ {A = ℕ} 0 1 = cc in absurd (omega arith)
+hits (joins {r = x} {h = g} v j) c i e k f = go (λ q. hits v c i e k q) (points c x) refl f
+  where
+    go : (find g c ≡ found i e → Hits c i e g) → (t : Bool) → points c x ≡ t → cond t (found (length g) x) (find g c) ≡ found i e → Hits c i e (x ∷ g)
+    go ih true p q = first {x = x} {g = g} (rw (k, p)) (cc) (cc) (misses-find c g (unfound v c x p (accepts g x j .serial-above)))
+    go ih false p q = later (not-pointed c x p) (ih q)
+
+-- of the entries of a list, c names only the one that it hits
+misses-none : {c : Raw} {g : History} → Misses c g → (x : Raw) → In x g → names c x ≡ false
+misses-none {c} (miss n m) x (newest s) = subst (λ y. names c y ≡ false) s n
+misses-none (miss n m) x (older t) = misses-none m x t
+
+pub hits-only : {c : Raw} {i : ℕ} {e : Raw} {g : History} → Hits c i e g → (x : Raw) → In x g → names c x ≡ true → x ≡ e
+hits-only (first n s l m) x (newest q) k = sym q ∙ s
+hits-only (first n s l m) x (older t) k = absurd (true≢false (sym k ∙ misses-none m x t))
+hits-only {c} (later n t) x (newest q) k = absurd (true≢false (sym k ∙ subst (λ y. names c y ≡ false) q n))
+hits-only (later n t) x (older u) k = hits-only t x u k
+
+-- what an accepted entry names, among the entries
+pub names-found : {h : History} → Valid h → (c : Raw) (i : ℕ) (e : Raw) → naming (kindOf (c .kind)) ≡ true → find h c ≡ found i e →
+    (x : Raw) → In x h → names c x ≡ true → x ≡ e
+names-found v c i e k f x m n = hits-only (hits v c i e k f) x m n
+
+pub names-points : (c x : Raw) → naming (kindOf (c .kind)) ≡ true → points c x ≡ true → names c x ≡ true
+unfolding names
+names-points c x k p = rw (k, p)
+
+-- the oldest entries have the lowest serials
+pub in-last : {h : History} → Valid h → (e : Raw) → In e h → e .serial ≤ lastSerial h (e .node)
+in-last (joins {r} {h} v j) e (newest q) =
+    let own : lastSerial (r ∷ h) (e .node) ≡ e .serial = subst (λ (x : Raw). lastSerial (r ∷ h) (x .node) ≡ x .serial) q (last-own h r) in
+    omega arith
+in-last (joins {r} {h} v j) e (older t) = omega (arith, in-last v e t, last-up h r (e .node) j)
+
+-- no entry of a history names one whose serial is newer than all of them
+pub in-names-old : {h : History} → Valid h → (c : Raw) → In c h → (r : Raw) → lastSerial h (r .node) < r .serial → names c r ≡ false
+in-names-old (joins {r = x} {h} v j) c (newest q) r n =
+    subst (λ y. names y r ≡ false) q (named-old v x r (role h x (sorted h x j)) (omega (arith, last-up h x (r .node) j)))
+in-names-old (joins {r = x} {h} v j) c (older t) r n = in-names-old v c t r (omega (arith, last-up h x (r .node) j))
+
+-- LAW: no added customer is dated 1,826 days or more after its contribution
+added-names : (c x : Raw) → kindOf (c .kind) ≡ kind.AddedCustomer → points c x ≡ true → names c x ≡ true
+added-names c x k p = names-points c x (ap naming k) p
+
+sort-period : {h : History} → Valid h → (c : Raw) → Sort h c → kindOf (c .kind) ≡ kind.AddedCustomer → (e : Raw) → In e h → points c e ≡ true → c .day < e .day + period
+sort-period v c (as-contribution q) k e m p = let z : _≡_ {A = ℕ} 0 1 = cc in absurd (omega arith)
+sort-period v c (as-added q i x f l d) k e m p =
+    let same : e ≡ x = names-found v c i x (ap naming q) f e m (added-names c e k p) in
+    subst (λ (y : Raw). c .day < y .day + period) (sym same) d
+sort-period v c (as-bill q) k e m p = let z : _≡_ {A = ℕ} 0 1 = cc in absurd (omega arith)
+sort-period v c (as-payment q) k e m p = let z : _≡_ {A = ℕ} 0 1 = cc in absurd (omega arith)
+sort-period v c (as-deposit q n a) k e m p = let z : _≡_ {A = ℕ} 0 1 = cc in absurd (omega arith)
+sort-period v c (as-return q) k e m p = let z : _≡_ {A = ℕ} 0 1 = cc in absurd (omega arith)
+sort-period v c (as-expiry q i x f l o) k e m p = let z : _≡_ {A = ℕ} 0 1 = cc in absurd (omega arith)
+sort-period v c (as-correction q i x f b l u) k e m p = let z : _≡_ {A = ℕ} 0 1 = cc in absurd (omega arith)
+
+pub in-period : {h : History} → Valid h → (c e : Raw) → In c h → In e h → kindOf (c .kind) ≡ kind.AddedCustomer → points c e ≡ true → c .day < e .day + period
+in-period (joins {r} {h} v j) c e (newest q) (newest s) k p =
+    let same : c ≡ e = sym q ∙ s in
+    let no-self : names c e ≡ false = subst (λ y. names y e ≡ false) q (subst (λ y. names r y ≡ false) s (not-itself v r j)) in
+    absurd (true≢false (sym (added-names c e k p) ∙ no-self))
+in-period (joins {r} {h} v j) c e (newest q) (older t) k p =
+    subst (λ (y : Raw). y .day < e .day + period) q
+    (sort-period v r (sorted h r j) (subst (λ (y : Raw). kindOf (y .kind) ≡ kind.AddedCustomer) (sym q) k) e t (subst (λ y. points y e ≡ true) (sym q) p))
+in-period (joins {r} {h} v j) c e (older t) (newest s) k p =
+    let fresh : names c e ≡ false = subst (λ y. names c y ≡ false) s (in-names-old v c t r (accepts h r j .serial-above)) in
+    absurd (true≢false (sym (added-names c e k p) ∙ fresh))
+in-period (joins v j) c e (older t) (older s) k p = in-period v c e t s k p
+
+-- LAW: no two corrections on one account name the same entry
+-- an entry that a correction of the history names is corrected
+corrected-stays : (k : Kind) (c e : Raw) (f : Fate) → f .corrected ≡ true → change k c e f .corrected ≡ true
+corrected-stays kind.Unknown c e f t = t
+corrected-stays kind.Contribution c e f t = t
+corrected-stays kind.AddedCustomer c e f t = t
+corrected-stays kind.Bill c e f t = t
+corrected-stays kind.Payment c e f t = t
+corrected-stays kind.Deposit c e f t = t
+corrected-stays kind.DepositReturn c e f t = t
+corrected-stays kind.Expiry c e f t = t
+corrected-stays kind.Correction c e f t = refl
+
+corrected-by : (h : History) (d e : Raw) → In d h → kindOf (d .kind) ≡ kind.Correction → points d e ≡ true → fate h e .corrected ≡ true
+unfolding fate
+corrected-by (r ∷ h) d e (newest q) k p =
+    let hitting : names r e ≡ true = subst (λ y. names y e ≡ true) (sym q) (names-points d e (ap naming k) p) in
+    let corrects : kindOf (r .kind) ≡ kind.Correction = subst (λ (y : Raw). kindOf (y .kind) ≡ kind.Correction) (sym q) k in
+    rw (hitting, corrects)
+corrected-by (r ∷ h) d e (older t) k p = go (corrected-by h d e t k p) (names r e)
+  where
+    go : fate h e .corrected ≡ true → (t : Bool) → cond t (change (kindOf (r .kind)) r e (fate h e)) (fate h e) .corrected ≡ true
+    go ih true = corrected-stays (kindOf (r .kind)) r e (fate h e) ih
+    go ih false = ih
+
+pub once : {h : History} → Valid h → Once h
+once empty = tt
+once (joins {r = c} {h} v j) = (λ d m w. go (sorted h c j) d m w, once v)
+  where
+    go : Sort h c → (d : Raw) → In d h → Again c d → ⊥
+    go (as-contribution q) d m w = let z : _≡_ {A = ℕ} 0 1 = cc in omega arith
+    go (as-added q i x f l t) d m w = let z : _≡_ {A = ℕ} 0 1 = cc in omega arith
+    go (as-bill q) d m w = let z : _≡_ {A = ℕ} 0 1 = cc in omega arith
+    go (as-payment q) d m w = let z : _≡_ {A = ℕ} 0 1 = cc in omega arith
+    go (as-deposit q n a) d m w = let z : _≡_ {A = ℕ} 0 1 = cc in omega arith
+    go (as-return q) d m w = let z : _≡_ {A = ℕ} 0 1 = cc in omega arith
+    go (as-expiry q i x f l o) d m w = let z : _≡_ {A = ℕ} 0 1 = cc in omega arith
+    go (as-correction q i x f b l u) d m w =
+        let p = pointed c x (hit v c i x f .aimed) in
+        let same : Pointed d x = record { account = p .account ∙ w .account; node = p .node ∙ w .node; serial = p .serial ∙ w .serial } in
+        true≢false (sym (corrected-by h d x m (w .second) (points-at d x same)) ∙ u)

@@ -1,0 +1,91 @@
+-- A book and a history that agree, and that they agree after every entry offered.
+use Prim.Native.Nat.{ℕ, _+_, _≤_}
+use mathlib.Core.Path.{_≡_}
+use mathlib.Core.Bool.{cond}
+use mathlib.Core.List.{List, [], _∷_}
+use lib.ListN.{length, getD}
+use lib.Dec.{eqb}
+use Rattle.measures.specs.Cents.{cents}
+use Rattle.measures.specs.Days.{day}
+use Rattle.entries.specs.Kinds.{kindOf}
+use Rattle.entries.specs.Entries.{metres, noEntry, entryOf}
+use Rattle.entries.specs.declared.raw.Raw.{Raw}
+use Rattle.entries.specs.declared.kinds.Kind.{Kind}
+use Rattle.entries.specs.declared.kinds.Kind.the-variants as kind
+use Rattle.entries.specs.declared.data.Entry.{Entry}
+use Rattle.entries.specs.declared.data.Data.{Data}
+use Rattle.entries.specs.declared.data.Data.the-variants as data′
+use Rattle.rules.specs.Accounts.{accountOf}
+use Rattle.rules.specs.declared.accounts.Account.{Account}
+use Rattle.book.specs.Fresh.{freshBook}
+use Rattle.book.specs.Posting.{accountAt, postOf}
+use Rattle.book.specs.declared.Book.{Book}
+use Rattle.queries.specs.Chain.{chainAt}
+use Rattle.history.specs.History.{History, lastSerial, Fate, fate, Balance, balance, accounts, entries, toArrears, refundsPaid, offer, repliedOf}
+use Rattle.history.specs.Laws.{Valid}
+
+-- the number of an account's newest entry, 0 where it has none
+unfoldable pub newestOf : History → ℕ → ℕ
+newestOf [] account = 0
+newestOf (r ∷ h) account = cond (eqb (r .account) account) (length h + 1) (newestOf h account)
+
+-- an account's amounts as the book keeps them
+abbrev pub keptAccount : Balance → ℕ → Account
+keptAccount b newest = accountOf (cents (b .arrears)) (cents (b .credit)) (cents (b .deposit)) (b .rate) (day (b .deposited)) newest
+
+-- what the book keeps of an entry of a kind: what was posted, and what became of it
+abbrev pub keptData : Kind → Raw → Fate → ℕ → ℕ → Data
+keptData kind.Unknown e f settled paidOut = data′.Unused
+keptData kind.Contribution e f settled paidOut =
+    data′.Contribution (cents (e .amount)) (metres (e .a)) (e .b) (cents (f .held)) (cents settled) (cents paidOut) (cents (f .retained)) (f .added) (f .closed)
+keptData kind.AddedCustomer e f settled paidOut = data′.AddedCustomer (e .«named_node») (e .«named_serial») (metres (e .a)) (e .b)
+keptData kind.Bill e f settled paidOut = data′.Bill (cents (e .amount)) (e .a) (e .b) (cents (f .standing)) (f .corrected)
+keptData kind.Payment e f settled paidOut = data′.Payment (cents (e .amount)) (cents (f .standing)) (f .corrected)
+keptData kind.Deposit e f settled paidOut = data′.Deposit (cents (e .amount)) (e .a)
+keptData kind.DepositReturn e f settled paidOut = data′.DepositReturn
+keptData kind.Expiry e f settled paidOut = data′.Expiry (e .«named_node») (e .«named_serial»)
+keptData kind.Correction e f settled paidOut = data′.Correction (e .«named_node») (e .«named_serial») (cents (e .amount))
+
+abbrev pub dataIn : History → Raw → Data
+dataIn all e = keptData (kindOf (e .kind)) e (fate all e) (toArrears all e) (refundsPaid all e)
+
+-- an entry as the book keeps it, h the older entries and `all` the whole history; its next index is the number of the account's previous entry
+abbrev pub keptEntry : History → History → Raw → Entry
+keptEntry all h e = entryOf e (newestOf h (e .account)) (dataIn all e)
+
+-- each entry stands at the place of its number
+pub data Rows (all : History) (es : List Entry) : History → Type 0 where
+  start : Rows all es []
+  more : {e : Raw} {h : History} → getD es (length h) noEntry ≡ keptEntry all h e → Rows all es h → Rows all es (e ∷ h)
+
+-- The book keeps the history's arrears, credit, deposits, last serials and entries, each number as it is.
+pub record Agrees (b : Book) (h : History) : Type 0 where
+  pub accounts-long : length (b .accounts) ≡ accounts
+  pub entries-long : length (b .entries) ≡ entries
+  pub counted : b .count ≡ length h
+  pub last-1 : b .last .«node_1» ≡ lastSerial h 1
+  pub last-2 : b .last .«node_2» ≡ lastSerial h 2
+  pub account : (a : ℕ) → 1 ≤ a → a ≤ accounts → accountAt b a ≡ keptAccount (balance h a) (newestOf h a)
+  pub rows : Rows h (b .entries) h
+
+-- an account's entries, newest first, as the book keeps them
+unfoldable pub keptChain : History → History → ℕ → List Entry
+keptChain all [] account = []
+keptChain all (e ∷ h) account =
+    cond (eqb (e .account) account) (keptEntry all h e ∷ keptChain all h account) (keptChain all h account)
+
+-- a book and a history that offers have brought to where they are
+pub record Kept (b : Book) (h : History) : Type 0 where
+  pub agrees : Agrees b h
+  pub valid : Valid h
+
+-- proofs/Agree.antt shows it
+pub record Agreement : Type 0 where
+  -- a fresh book agrees with the empty history
+  pub fresh : Kept freshBook []
+  -- the reply to a posting is the history's
+  pub replied : (b : Book) (h : History) → Kept b h → (r : Raw) → postOf b r .reply ≡ repliedOf h r
+  -- the next book agrees with the next history
+  pub posted : (b : Book) (h : History) → Kept b h → (r : Raw) → Kept (postOf b r .book) (offer h r)
+  -- an account's chain is its entries, newest first
+  pub chain : (b : Book) (h : History) → Kept b h → (a : ℕ) → 1 ≤ a → a ≤ accounts → chainAt b a ≡ keptChain h h a

@@ -1,0 +1,61 @@
+-- Demand 3: one claim about a list of calls as a whole.
+use Prim.Native.Nat.{ℕ, _≤_}
+use mathlib.Core.Path.{_≡_}
+use mathlib.Core.List.{List, [], _∷_}
+use Rattle.book.specs.Fresh.{freshBook}
+use Rattle.book.specs.Posting.{accountAt, postOf}
+use Rattle.book.specs.declared.Book.{Book}
+use Rattle.queries.specs.Chain.{chainAt, totalOf}
+use Rattle.queries.specs.Chain as chains
+use Rattle.queries.specs.Statement.{statementOf}
+use Rattle.queries.specs.Contribution.{contributionQueryOf}
+use Rattle.image.specs.Saves.{saveOf}
+use Rattle.history.specs.History.{accounts, balance, total, heldOf}
+use Rattle.history.specs.Laws.{Lawful}
+use Rattle.history.specs.Agreement.{Kept}
+use Rattle.history.specs.Carry.{carryRefusalOf, carryBookOf, carryResultsOf}
+use Rattle.history.specs.Calls.{Call, posting, carryOver, statement, contribution, save, Answer, posted, carried, stated, given, saved, toldAll, historyOf}
+
+-- the calls on a book: the next book, and the answer
+unfoldable pub callBook : Book → Call → Book
+callBook b (posting r) = postOf b r .book
+callBook b (carryOver rs results) = carryBookOf b rs results
+callBook b (statement account allowance) = b
+callBook b (contribution account node serial) = b
+callBook b (save buffer) = b
+
+unfoldable pub callAnswer : Book → Call → Answer
+callAnswer b (posting r) = posted (postOf b r .reply)
+callAnswer b (carryOver rs results) = carried (carryRefusalOf rs results) (carryResultsOf b rs results)
+callAnswer b (statement account allowance) = stated (statementOf b account allowance)
+callAnswer b (contribution account node serial) = given (contributionQueryOf b account node serial)
+callAnswer b (save buffer) = saved (saveOf b buffer .refusal) (saveOf b buffer .bytes)
+
+unfoldable pub bookAfter : Book → List Call → Book
+bookAfter b [] = b
+bookAfter b (c ∷ cs) = bookAfter (callBook b c) cs
+
+unfoldable pub answers : Book → List Call → List Answer
+answers b [] = []
+answers b (c ∷ cs) = callAnswer b c ∷ answers (callBook b c) cs
+
+-- the book that a list of calls makes of a fresh one
+abbrev pub bookOf : List Call → Book
+bookOf cs = bookAfter freshBook cs
+
+pub record Right (cs : List Call) : Type 0 where
+  -- every answer is what the history says at that point: refusals, the four amounts, statements, contribution queries, saves
+  pub answered : answers freshBook cs ≡ toldAll [] cs
+  -- the book after the list has the history's arrears, credit and amounts held
+  pub arrears : (a : ℕ) → 1 ≤ a → a ≤ accounts → accountAt (bookOf cs) a .arrears .0 ≡ balance (historyOf cs) a .arrears
+  pub credit : (a : ℕ) → 1 ≤ a → a ≤ accounts → accountAt (bookOf cs) a .credit .0 ≡ balance (historyOf cs) a .credit
+  pub deposit : (a : ℕ) → 1 ≤ a → a ≤ accounts → accountAt (bookOf cs) a .deposit .0 ≡ balance (historyOf cs) a .deposit
+  pub held : (a : ℕ) → 1 ≤ a → a ≤ accounts → totalOf chains.heldOf (chainAt (bookOf cs) a) ≡ total heldOf (historyOf cs) (historyOf cs) a
+  -- and so in every part
+  pub kept : Kept (bookOf cs) (historyOf cs)
+  -- the sums hold
+  pub lawful : Lawful (historyOf cs)
+
+-- proofs/Claim.antt shows it
+abbrev pub Demand3 : Type 0
+Demand3 = (cs : List Call) → Right cs

@@ -1,0 +1,395 @@
+-- The history (document 01, "History"): the entries that joined, and what is read off their list alone.
+-- Nothing here reads a book. All numbers are plain ones: no sum stops at a limit.
+use Prim.Native.Nat.{ℕ, zero, suc, _+_, _-_}
+use mathlib.Core.Bool.{Bool, true, false, cond, not, _&&_, _||_}
+use mathlib.Core.List.{List, [], _∷_, _++_}
+use lib.ListN.{length, drop}
+use lib.Dec.{eqb, leb, ltb}
+use Rattle.entries.specs.Kinds.{numberOf, kindOf}
+use Rattle.entries.specs.Ranges.{inRangeOf}
+use Rattle.entries.specs.declared.raw.Raw.{Raw}
+use Rattle.entries.specs.declared.kinds.Kind.{Kind}
+use Rattle.entries.specs.declared.kinds.Kind.the-variants as kind
+use Rattle.rules.specs.Formulas.{billed, refund, interest}
+use Rattle.rules.specs.Moves.{settles, leaves, covers, owes}
+use Rattle.rules.specs.declared.answers.Reply.{Reply}
+
+-- 128 accounts and 1,024 entries are facts of every book
+abbrev pub accounts : ℕ
+accounts = 128
+
+abbrev pub entries : ℕ
+entries = 1024
+
+-- 2099-12-31
+abbrev pub lastDay : ℕ
+lastDay = 36524
+
+-- the days from a contribution on in which added customers bring refunds
+abbrev pub period : ℕ
+period = 1826
+
+-- The list, newest first.
+abbrev pub History : Type 0
+History = List Raw
+
+abbrev pub is : Kind → Kind → Bool
+is k l = eqb (numberOf k) (numberOf l)
+
+-- the serial of a node's last entry, 0 where it has none
+unfoldable pub lastSerial : History → ℕ → ℕ
+lastSerial [] node = 0
+lastSerial (r ∷ h) node = cond (eqb (r .node) node) (r .serial) (lastSerial h node)
+
+-- THE NAMED ENTRY
+-- the kinds that name an entry
+abbrev pub naming : Kind → Bool
+naming k = is k kind.AddedCustomer || (is k kind.Expiry || is k kind.Correction)
+
+-- an added customer and an expiry name a contribution, a correction a bill or a payment
+abbrev pub suits : Kind → Kind → Bool
+suits k l = cond (is k kind.Correction) (is l kind.Bill || is l kind.Payment) (is l kind.Contribution)
+
+-- e is of c's account, and carries the named node and named serial as its node and serial
+unfoldable pub points : Raw → Raw → Bool
+points c e = eqb (e .account) (c .account) && (eqb (e .node) (c .«named_node») && eqb (e .serial) (c .«named_serial»))
+
+-- c is of a kind that names an entry, and e is the one
+unfoldable pub names : Raw → Raw → Bool
+names c e = naming (kindOf (c .kind)) && points c e
+
+-- what a search ends in: the entry, with the number of entries that are older
+pub data Sought : Type 0 where
+  missing : Sought
+  found : ℕ → Raw → Sought
+
+unfoldable pub find : History → Raw → Sought
+find [] c = missing
+find (e ∷ h) c = cond (points c e) (found (length h) e) (find h c)
+
+-- the entry that c names; none where its kind names none
+unfoldable pub named : History → Raw → Sought
+named h c = cond (naming (kindOf (c .kind))) (find h c) missing
+
+-- WHAT BECAME OF AN ENTRY
+pub record Fate : Type 0 where
+  pub held : ℕ
+  pub retained : ℕ
+  pub added : ℕ
+  pub closed : Bool
+  pub standing : ℕ
+  pub corrected : Bool
+
+-- the standing amount is first the billed amount of a bill, or the amount of a payment
+abbrev pub firstStanding : Kind → Raw → ℕ
+firstStanding k e = cond (is k kind.Bill) (billed (e .amount) (e .b) (e .a)) (e .amount)
+
+-- 1: held = amount
+abbrev pub posted : Raw → Fate
+posted e =
+    record {
+      held = e .amount;
+      retained = 0;
+      added = 0;
+      closed = false;
+      standing = firstStanding (kindOf (e .kind)) e;
+      corrected = false;
+    }
+
+-- the refund that an added customer c brings to a contribution e
+abbrev pub refundOf : Raw → Raw → Fate → ℕ
+refundOf c e f = refund (f .held) (e .amount) (c .a) (e .a) (f .added)
+
+-- 2: held falls by the refund
+abbrev pub refunded : ℕ → Fate → Fate
+refunded x f =
+    record {
+      held = f .held - x;
+      retained = f .retained;
+      added = f .added + 1;
+      closed = f .closed;
+      standing = f .standing;
+      corrected = f .corrected;
+    }
+
+-- 7: retained = held; held = 0; the contribution is closed
+abbrev pub expired : Fate → Fate
+expired f =
+    record {
+      held = 0;
+      retained = f .held;
+      added = f .added;
+      closed = true;
+      standing = f .standing;
+      corrected = f .corrected;
+    }
+
+-- 8: the standing amount becomes the new one
+abbrev pub restated : ℕ → Fate → Fate
+restated x f =
+    record {
+      held = f .held;
+      retained = f .retained;
+      added = f .added;
+      closed = f .closed;
+      standing = x;
+      corrected = true;
+    }
+
+-- what c, of a kind, makes of the entry e that it names
+abbrev pub change : Kind → Raw → Raw → Fate → Fate
+change kind.Unknown c e f = f
+change kind.Contribution c e f = f
+change kind.AddedCustomer c e f = refunded (refundOf c e f) f
+change kind.Bill c e f = f
+change kind.Payment c e f = f
+change kind.Deposit c e f = f
+change kind.DepositReturn c e f = f
+change kind.Expiry c e f = expired f
+change kind.Correction c e f = restated (c .amount) f
+
+unfoldable pub fate : History → Raw → Fate
+fate [] e = posted e
+fate (c ∷ h) e = cond (names c e) (change (kindOf (c .kind)) c e (fate h e)) (fate h e)
+
+-- no entry: what stands for the named entry where there is none
+abbrev pub noRaw : Raw
+noRaw =
+    record {
+      kind = 0;
+      node = 0;
+      account = 0;
+      day = 0;
+      serial = 0;
+      amount = 0;
+      «named_serial» = 0;
+      a = 0;
+      b = 0;
+      «named_node» = 0;
+    }
+
+abbrev pub entryIn : Sought → Raw
+entryIn missing = noRaw
+entryIn (found i e) = e
+
+abbrev pub fateIn : History → Sought → Fate
+fateIn h missing = posted noRaw
+fateIn h (found i e) = fate h e
+
+-- AN ACCOUNT'S AMOUNTS, with the rate and the day of the deposit held
+pub record Balance : Type 0 where
+  pub arrears : ℕ
+  pub credit : ℕ
+  pub deposit : ℕ
+  pub rate : ℕ
+  pub deposited : ℕ
+
+abbrev pub balanceOf : ℕ → ℕ → ℕ → ℕ → ℕ → Balance
+balanceOf arrears credit deposit rate deposited =
+    record { arrears = arrears; credit = credit; deposit = deposit; rate = rate; deposited = deposited }
+
+-- Posting's moves: a charge; a credit, of which what is left over goes to credit; a refund, a credit of which it is paid out;
+-- a deposit with its rate and day; its return with interest, of which what is left over is paid out; what an expiry retains.
+pub data Move : Type 0 where
+  stays : Move
+  charges : ℕ → Move
+  credits : ℕ → Move
+  refunds : ℕ → Move
+  deposits : ℕ → ℕ → ℕ → Move
+  returns : ℕ → Move
+  retains : ℕ → Move
+
+-- what is owed goes from x to y
+abbrev pub restates : ℕ → ℕ → Move
+restates x y = cond (leb x y) (charges (y - x)) (credits (x - y))
+
+-- what an entry r, of a kind, does to an account; e and f are the entry that it names and its fate.
+-- A correction: a bill that grows, or a payment that shrinks, charges the difference; the others credit it.
+abbrev pub moveOf : Kind → Raw → Balance → Raw → Fate → Move
+moveOf kind.Unknown r b e f = stays
+moveOf kind.Contribution r b e f = stays
+moveOf kind.AddedCustomer r b e f = refunds (refundOf r e f)
+moveOf kind.Bill r b e f = charges (billed (r .amount) (r .b) (r .a))
+moveOf kind.Payment r b e f = credits (r .amount)
+moveOf kind.Deposit r b e f = deposits (r .amount) (r .a) (r .day)
+moveOf kind.DepositReturn r b e f = returns (interest (b .deposit) (b .rate) (r .day - b .deposited))
+moveOf kind.Expiry r b e f = retains (f .held)
+moveOf kind.Correction r b e f =
+    cond (is (kindOf (e .kind)) kind.Bill) (restates (f .standing) (r .amount)) (restates (r .amount) (f .standing))
+
+abbrev pub moved : Move → Balance → Balance
+moved stays b = b
+moved (charges x) b =
+    balanceOf (b .arrears + owes x (b .credit)) (b .credit - covers x (b .credit)) (b .deposit) (b .rate) (b .deposited)
+moved (credits x) b =
+    balanceOf (b .arrears - settles x (b .arrears)) (b .credit + leaves x (b .arrears)) (b .deposit) (b .rate) (b .deposited)
+moved (refunds x) b = balanceOf (b .arrears - settles x (b .arrears)) (b .credit) (b .deposit) (b .rate) (b .deposited)
+moved (deposits x rate day) b = balanceOf (b .arrears) (b .credit) x rate day
+moved (returns i) b = balanceOf (b .arrears - settles (b .deposit + i) (b .arrears)) (b .credit) 0 0 0
+moved (retains x) b = b
+
+unfoldable pub moveBy : History → Raw → Balance → Move
+moveBy h r b = moveOf (kindOf (r .kind)) r b (entryIn (named h r)) (fateIn h (named h r))
+
+unfoldable pub balance : History → ℕ → Balance
+balance [] account = balanceOf 0 0 0 0 0
+balance (r ∷ h) account =
+    cond (eqb (r .account) account) (moved (moveBy h r (balance h account)) (balance h account)) (balance h account)
+
+-- THE FOUR AMOUNTS OF AN ANSWER
+pub record Amounts : Type 0 where
+  pub settled : ℕ
+  pub paidOut : ℕ
+  pub retained : ℕ
+  pub interest : ℕ
+
+abbrev pub four : ℕ → ℕ → ℕ → ℕ → Amounts
+four settled paidOut retained interest =
+    record { settled = settled; paidOut = paidOut; retained = retained; interest = interest }
+
+abbrev pub answered : Move → Balance → Amounts
+answered stays b = four 0 0 0 0
+answered (charges x) b = four 0 0 0 0
+answered (credits x) b = four (settles x (b .arrears)) 0 0 0
+answered (refunds x) b = four (settles x (b .arrears)) (leaves x (b .arrears)) 0 0
+answered (deposits x rate day) b = four 0 0 0 0
+answered (returns i) b = four (settles (b .deposit + i) (b .arrears)) (leaves (b .deposit + i) (b .arrears)) 0 i
+answered (retains x) b = four 0 0 x 0
+
+-- of an entry that joins a history
+unfoldable pub amounts : History → Raw → Amounts
+amounts h r = answered (moveBy h r (balance h (r .account))) (balance h (r .account))
+
+-- REFUSED, IN CHECKING ORDER
+pub record Row : Type 0 where
+  pub broken : Bool
+  pub number : ℕ
+
+infix 10 _⇒_
+abbrev pub _⇒_ : Bool → ℕ → Row
+b ⇒ n = record { broken = b; number = n }
+
+-- the number of the first rule that is broken, 0 where none is
+abbrev pub firstOf : List Row → ℕ
+firstOf [] = 0
+firstOf (x ∷ xs) = cond (x .broken) (x .number) (firstOf xs)
+
+abbrev pub within : ℕ → ℕ → ℕ → Bool
+within n low high = leb low n && leb n high
+
+-- e and f are the entry that r names and its fate, b is the balance of r's account
+abbrev pub refusals : History → Raw → Kind → Raw → Fate → Balance → List Row
+refusals h r k e f b =
+    let l = kindOf (e .kind) in
+    (is k kind.Unknown ⇒ 1) ∷
+    (not (within (r .node) 1 2) ⇒ 2) ∷
+    (not (within (r .account) 1 accounts) ⇒ 3) ∷
+    (ltb lastDay (r .day) ⇒ 4) ∷
+    (not (inRangeOf r k) ⇒ 5) ∷
+    (leb (r .serial) (lastSerial h (r .node)) ⇒ 6) ∷
+    (leb entries (length h) ⇒ 7) ∷
+    (naming k && not (suits k l) ⇒ 8) ∷
+    (is k kind.Deposit && ltb 0 (b .deposit) || is k kind.DepositReturn && eqb (b .deposit) 0 ⇒ 9) ∷
+    (ltb (r .day) (cond (is k kind.DepositReturn) (b .deposited) (e .day)) ⇒ 10) ∷
+    (is l kind.Contribution && f .closed ⇒ 11) ∷
+    (is k kind.AddedCustomer && leb (e .day + period) (r .day) ⇒ 12) ∷
+    (is k kind.Expiry && ltb (r .day) (e .day + period) ⇒ 13) ∷
+    (is k kind.AddedCustomer && (eqb (r .b) 1 && eqb (e .b) 3) ⇒ 14) ∷
+    (is k kind.AddedCustomer && ltb (e .a) (r .a) ⇒ 15) ∷
+    ((is l kind.Bill || is l kind.Payment) && f .corrected ⇒ 16) ∷
+    []
+
+-- the refusal of an offered entry, read against the history so far; 0 where it joins
+unfoldable pub judge : History → Raw → ℕ
+judge h r =
+    firstOf (refusals h r (kindOf (r .kind)) (entryIn (named h r)) (fateIn h (named h r)) (balance h (r .account)))
+
+-- OFFERS
+-- an entry that a refusal stops adds nothing; every other joins
+abbrev pub joined : ℕ → Raw → History → History
+joined zero r h = r ∷ h
+joined (suc n) r h = h
+
+unfoldable pub offer : History → Raw → History
+offer h r = joined (judge h r) r h
+
+unfoldable pub offers : History → List Raw → History
+offers h [] = h
+offers h (r ∷ rs) = offers (offer h r) rs
+
+-- refused: the number and otherwise zeros; accepted: the entry's number and the four amounts
+abbrev pub repliedBy : ℕ → ℕ → Amounts → Reply
+repliedBy zero number x =
+    record {
+      refusal = 0;
+      number = number;
+      settled = x .settled;
+      «paid_out» = x .paidOut;
+      retained = x .retained;
+      interest = x .interest;
+    }
+repliedBy (suc n) number x =
+    record { refusal = suc n; number = 0; settled = 0; «paid_out» = 0; retained = 0; interest = 0 }
+
+unfoldable pub repliedOf : History → Raw → Reply
+repliedOf h r = repliedBy (judge h r) (length h + 1) (amounts h r)
+
+-- CARRY-OVER
+-- each entry is offered in turn; its refusal number, or 0, goes to the same place of the result list
+unfoldable pub verdicts : History → List Raw → List ℕ
+verdicts h [] = []
+verdicts h (r ∷ rs) = judge h r ∷ verdicts (offer h r) rs
+
+-- 22: the result list is shorter than the entries, and none is offered
+abbrev pub tooShort : List Raw → List ℕ → Bool
+tooShort rs results = ltb (length results) (length rs)
+
+abbrev pub carryNumber : List Raw → List ℕ → ℕ
+carryNumber rs results = cond (tooShort rs results) 22 0
+
+abbrev pub carryOffers : History → List Raw → List ℕ → History
+carryOffers h rs results = cond (tooShort rs results) h (offers h rs)
+
+-- the result list after it; further places are unchanged
+abbrev pub carryVerdicts : History → List Raw → List ℕ → List ℕ
+carryVerdicts h rs results = cond (tooShort rs results) results (verdicts h rs ++ drop (length rs) results)
+
+-- SUMS
+-- over an account's entries, of what is read off each and its fate in the whole history, `all`
+unfoldable pub total : (Kind → Raw → Fate → ℕ) → History → History → ℕ → ℕ
+total f all [] account = 0
+total f all (r ∷ h) account =
+    cond (eqb (r .account) account) (f (kindOf (r .kind)) r (fate all r)) 0 + total f all h account
+
+-- contributions and deposits by their amounts, bills and payments by their standing amounts, and what is held of contributions
+abbrev pub contributed : Kind → Raw → Fate → ℕ
+contributed k e f = cond (is k kind.Contribution) (e .amount) 0
+
+abbrev pub deposited : Kind → Raw → Fate → ℕ
+deposited k e f = cond (is k kind.Deposit) (e .amount) 0
+
+abbrev pub standingBill : Kind → Raw → Fate → ℕ
+standingBill k e f = cond (is k kind.Bill) (f .standing) 0
+
+abbrev pub standingPayment : Kind → Raw → Fate → ℕ
+standingPayment k e f = cond (is k kind.Payment) (f .standing) 0
+
+abbrev pub heldOf : Kind → Raw → Fate → ℕ
+heldOf k e f = cond (is k kind.Contribution) (f .held) 0
+
+-- interest, paid out and retained are added up posting by posting
+unfoldable pub addedUp : (Amounts → ℕ) → History → ℕ → ℕ
+addedUp f [] account = 0
+addedUp f (r ∷ h) account = cond (eqb (r .account) account) (f (amounts h r)) 0 + addedUp f h account
+
+-- what the added customers of a contribution e settle are its refunds to arrears, what they leave over its refunds paid out
+unfoldable pub ofCustomers : (Amounts → ℕ) → History → Raw → ℕ
+ofCustomers f [] e = 0
+ofCustomers f (c ∷ h) e =
+    cond (is (kindOf (c .kind)) kind.AddedCustomer && points c e) (f (amounts h c)) 0 + ofCustomers f h e
+
+abbrev pub toArrears : History → Raw → ℕ
+toArrears h e = ofCustomers (λ (x : Amounts). x .settled) h e
+
+abbrev pub refundsPaid : History → Raw → ℕ
+refundsPaid h e = ofCustomers (λ (x : Amounts). x .paidOut) h e

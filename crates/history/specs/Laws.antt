@@ -1,0 +1,66 @@
+-- What holds of every history that offers give, from the empty one on.
+use Prim.Native.Nat.{ℕ, _+_, _≤_, _<_}
+use mathlib.Core.Path.{_≡_}
+use mathlib.Core.Bool.{true}
+use mathlib.Core.List.{List, [], _∷_}
+use lib.ListN.{length}
+use Rattle.entries.specs.Kinds.{kindOf}
+use Rattle.entries.specs.declared.raw.Raw.{Raw}
+use Rattle.entries.specs.declared.kinds.Kind.the-variants as kind
+use Rattle.history.specs.History.{History, Amounts, entries, period, points, fate, balance, judge, offers, total, contributed, deposited, standingBill, standingPayment, heldOf, addedUp, toArrears, refundsPaid}
+
+-- the histories that offers give: no refusal stopped any entry, read against those before it
+pub data Valid : History → Type 0 where
+  empty : Valid []
+  joins : {r : Raw} {h : History} → Valid h → judge h r ≡ 0 → Valid (r ∷ h)
+
+-- an entry of a history
+pub data In (e : Raw) : History → Type 0 where
+  newest : {r : Raw} {h : History} → r ≡ e → In e (r ∷ h)
+  older : {r : Raw} {h : History} → In e h → In e (r ∷ h)
+
+-- An account's sums and amounts: contributions, payments, deposits, interest and arrears together are
+-- bills, paid out, retained, contributions held, deposit held and credit together.
+abbrev pub Conserved : History → ℕ → Type 0
+Conserved h a =
+    total contributed h h a + total standingPayment h h a + total deposited h h a + addedUp (λ (x : Amounts). x .interest) h a +
+    balance h a .arrears
+    ≡ total standingBill h h a + addedUp (λ (x : Amounts). x .paidOut) h a + addedUp (λ (x : Amounts). x .retained) h a +
+    total heldOf h h a +
+    balance h a .deposit +
+    balance h a .credit
+
+-- A contribution is refunds to arrears, refunds paid out, what is held and what is retained together.
+abbrev pub Divided : History → Raw → Type 0
+Divided h e = e .amount ≡ toArrears h e + refundsPaid h e + fate h e .held + fate h e .retained
+
+-- two corrections on one account that name the same entry
+pub record Again (c d : Raw) : Type 0 where
+  pub first : kindOf (c .kind) ≡ kind.Correction
+  pub second : kindOf (d .kind) ≡ kind.Correction
+  pub account : c .account ≡ d .account
+  pub node : c .«named_node» ≡ d .«named_node»
+  pub serial : c .«named_serial» ≡ d .«named_serial»
+
+-- no entry corrects what an older one has corrected
+abbrev pub Once : History → Type 0
+Once [] = Unit {0}
+Once (c ∷ h) = ((d : Raw) → In d h → Again c d → ⊥) × Once h
+
+pub record Lawful (h : History) : Type 0 where
+  pub conserved : (a : ℕ) → Conserved h a
+  pub divided : (e : Raw) → In e h → kindOf (e .kind) ≡ kind.Contribution → Divided h e
+  -- no added customer is dated 1,826 days or more after its contribution
+  pub in-period : (c e : Raw) → In c h → In e h → kindOf (c .kind) ≡ kind.AddedCustomer → points c e ≡ true → c .day < e .day + period
+  pub once : Once h
+  -- and no number comes near a limit of the book's: entries 1,024, amounts 2^64 - 1, customers added to an entry 65,535
+  pub room : length h ≤ entries
+  pub arrears : (a : ℕ) → balance h a .arrears ≤ 1024000000000000
+  pub credit : (a : ℕ) → balance h a .credit ≤ 1024000000000000
+  pub added : (e : Raw) → fate h e .added ≤ entries
+
+-- proofs/Lawful.antt shows both
+pub record Laws : Type 0 where
+  -- offers give such a history, whatever is offered
+  pub valid : (rs : List Raw) → Valid (offers [] rs)
+  pub lawful : (h : History) → Valid h → Lawful h
