@@ -12,3 +12,4 @@ pub mod Lawful
 pub mod Carry
 pub mod Queries
 pub mod Claim
+pub mod Trips

@@ -5,3 +5,4 @@ pub mod Carry
 pub mod Queries
 pub mod Calls
 pub mod Claim
+pub mod Trips
