@@ -221,6 +221,8 @@ impl Data {
     pub fn restated(self, amount: Cents) -> Data
         ensures { λ r. ⌜ r ≡ restatedOf self amount ⌝ }
     {
+        // It is not corrected again (16).
+        let corrected = true;
         match self {
             Data::Bill {
                 charge,
@@ -233,7 +235,7 @@ impl Data {
                 period,
                 served,
                 standing: amount,
-                corrected: true,
+                corrected,
             },
             Data::Payment {
                 amount: posted,
@@ -242,7 +244,7 @@ impl Data {
             } => Data::Payment {
                 amount: posted,
                 standing: amount,
-                corrected: true,
+                corrected,
             },
             _ => self,
         }
