@@ -33,7 +33,7 @@ withOf e d =
 unfoldable pub pointsAt : Raw → Entry → Bool
 pointsAt r e = eqb (e .node) (r .«named_node») && eqb (e .serial) (r .«named_serial»)
 
--- What the rules read of a named entry: a bill's or payment's standing amount and whether it was corrected,
+-- what the rules read of a bill or a payment: the kind, the standing amount, and whether it was corrected
 abbrev pub sumOf : Kind → Cents → Bool → Named
 sumOf k standing corrected =
     record {
@@ -48,11 +48,11 @@ sumOf k standing corrected =
       corrected = corrected;
     }
 
--- of a kind that nothing names only the kind,
+-- what they read of an entry that nothing names: the kind
 abbrev pub otherOf : Kind → Named
 otherOf k = sumOf k (cents 0) false
 
--- and a contribution's amount, metres, phases, what is held, the customers added and whether it is closed.
+-- what they read of every entry; of a contribution its amount, metres, phases, what is held, the customers added and whether it is closed
 unfoldable pub namedOf : Data → Named
 namedOf Unused = otherOf kind.Unknown
 namedOf (Contribution amount built phases held toArrears paidOut retained added closed) =

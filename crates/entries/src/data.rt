@@ -78,14 +78,14 @@ pub struct Named {
 }
 
 impl Named {
-    // Of an entry that no rule reads but for its kind.
+    // What the rules read of an entry that they read no figure of.
     fn other(kind: Kind) -> Named
         ensures { λ r. ⌜ r ≡ otherOf kind ⌝ }
     {
         Named::sum(kind, Cents(0), false)
     }
 
-    // Of a bill or a payment.
+    // What the rules read of a bill or a payment.
     fn sum(kind: Kind, standing: Cents, corrected: bool) -> Named
         ensures { λ r. ⌜ r ≡ sumOf kind standing corrected ⌝ }
     {
@@ -120,11 +120,9 @@ impl Data {
                 built,
                 phases,
                 held,
-                to_arrears: _,
-                paid_out: _,
-                retained: _,
                 added,
                 closed,
+                ..
             } => Named {
                 kind: Kind::Contribution,
                 amount,
@@ -137,16 +135,14 @@ impl Data {
                 corrected: false,
             },
             Data::Bill {
-                charge: _,
-                period: _,
-                served: _,
                 standing,
                 corrected,
+                ..
             } => Named::sum(Kind::Bill, standing, corrected),
             Data::Payment {
-                amount: _,
                 standing,
                 corrected,
+                ..
             } => Named::sum(Kind::Payment, standing, corrected),
             Data::AddedCustomer { .. } => Named::other(Kind::AddedCustomer),
             Data::Deposit { .. } => Named::other(Kind::Deposit),

@@ -12,4 +12,4 @@ use Rattle.rules.specs.Figures.{Figures}
 
 pub shown : Figures
 unfolding rounded kindOf misnamesOf namedOf refundedOf restatedOf entryOf ruleOf creditedOf keptOf chargedOf billedOf refundOf interestOf checkStateOf contributionOf addedCustomerOf correctionOf effectOf
-shown = (refl, (refl, (refl, (refl, (refl, (refl, (refl, (refl, (refl, (refl, (refl, (refl, (refl, (refl, (refl, (refl, (refl, (refl, (refl, (refl, (refl, tt)))))))))))))))))))))
+shown = (refl, (refl, (refl, (refl, (refl, (refl, (refl, (refl, (refl, (refl, (refl, (refl, (refl, (refl, (refl, (refl, (refl, (refl, (refl, (refl, (refl, (refl, tt))))))))))))))))))))))

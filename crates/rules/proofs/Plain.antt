@@ -9,12 +9,13 @@ use native.Mathlib.Omega.{arith}
 use Rattle.measures.specs.Cents.{cents, most}
 use Rattle.measures.specs.declared.Cents.{Cents}
 use Rattle.measures.specs.Rounding.{rounded}
+use Rattle.measures.proofs.Rounding.{rounds}
 use Rattle.entries.specs.Ranges.{amountMost, limitsOf, between, namedFits, bFits, inRangeOf}
 use Rattle.entries.specs.Entries.{metres}
 use Rattle.entries.specs.declared.raw.Raw.{Raw}
 use Rattle.entries.specs.declared.kinds.Kind.{Kind}
 use Rattle.entries.specs.declared.kinds.Kind.the-variants as kind
-use Rattle.rules.specs.Formulas.{refund, billedOf, refundOf, interestOf, Plain, PlainEntries}
+use Rattle.rules.specs.Formulas.{refund, billedOf, refundOf, interestOf, Plain, PlainEntries, RoundedNearest}
 
 -- a product of two numbers within bounds whose product fits
 fits : (m n a b : ℕ) → a ≤ m → b ≤ n → m * n ≤ most → min (a * b) most ≡ a * b
@@ -74,4 +75,12 @@ plain-entries =
           ap (λ (m : ℕ). cents (refund (n .held .0) m (r .a) (n .built .0) (n .added))) same;
       deposit-return = λ d r e h.
           plain .deposit-return (d .amount) (d .a) (r .day - d .day) (in-range d kind.Deposit e .0) (in-range d kind.Deposit e .1) (omega arith);
+    }
+
+pub rounded-nearest : RoundedNearest
+unfolding rounded
+rounded-nearest =
+    record {
+      bill = λ charge served period h. rounds (charge * served) period h;
+      deposit-return = λ deposit rate t. rounds (deposit * rate * t) 3650000 (omega arith);
     }

@@ -106,6 +106,7 @@ figures =
     (p2 .amounts .«paid_out» .0 gives 95000) ∷
     (p3 .amounts .settled .0 gives 0) ∷
     (p3 .amounts .«paid_out» .0 gives 75000) ∷
+    (p4 .amounts .settled .0 gives 0) ∷
     (p4 .amounts .«paid_out» .0 gives 50000) ∷
     (p5 .amounts .settled .0 gives 0) ∷
     (p5 .amounts .«paid_out» .0 gives 0) ∷

@@ -1,8 +1,9 @@
 -- The formulas of kinds 2, 3 and 6: document 01's on plain numbers, and those of the code, whose products stop at 2^64 - 1.
-use Prim.Native.Nat.{ℕ, _+_, _-_, _*_, _/_, min, _≤_}
+use Prim.Native.Nat.{ℕ, _+_, _-_, _*_, _/_, min, _≤_, _<_}
 use mathlib.Core.Path.{_≡_}
 use mathlib.Core.Bool.{true}
 use Rattle.measures.specs.Cents.{cents, leastOf, timesOf, overOf, roundedOf}
+use Rattle.measures.specs.Rounding.{Nearest}
 use Rattle.measures.specs.declared.Cents.{Cents}
 use Rattle.measures.specs.declared.Metres.{Metres}
 use Rattle.entries.specs.Ranges.{amountMost, inRangeOf}
@@ -50,3 +51,8 @@ pub record PlainEntries : Type 0 where
       refundOf n (metres (r .a)) ≡ cents (refund (n .held .0) (contribution .amount) (r .a) (n .built .0) (n .added))
   pub deposit-return : (deposit r : Raw) → inRangeOf deposit kind.Deposit ≡ true → r .day ≤ 36524 →
       interestOf (cents (deposit .amount)) (deposit .a) (r .day - deposit .day) ≡ cents (interest (deposit .amount) (deposit .a) (r .day - deposit .day))
+
+-- Billed amounts and interest are rounded by the one law of rounding: to the nearest cent, an exact half upwards.
+pub record RoundedNearest : Type 0 where
+  pub bill : (charge served period : ℕ) → 0 < period → Nearest (charge * served) period (billed charge served period)
+  pub deposit-return : (deposit rate t : ℕ) → Nearest (deposit * rate * t) 3650000 (interest deposit rate t)

@@ -25,9 +25,12 @@ pub fn refund(named: Named, shared: Metres) -> Cents
     held.least(share)
 }
 
+// The days of a year times the hundredths of a percent in the whole.
+const RATE_YEAR: u64 = 3650000;
+
 // The interest on a deposit at a yearly rate in hundredths of a percent, for a number of days.
 pub fn interest(deposit: Cents, rate: u64, days: u16) -> Cents
     ensures { λ r. ⌜ r ≡ interestOf deposit rate days ⌝ }
 {
-    deposit.times(rate).times(days as u64).rounded(3650000)
+    deposit.times(rate).times(days as u64).rounded(RATE_YEAR)
 }
