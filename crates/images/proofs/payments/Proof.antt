@@ -18,6 +18,12 @@ loop-holds c = search needs
 cast-account : tie.Need-cast-account Inv-loop μ-loop
 cast-account c = search needs
 
+rem-account : tie.Need-rem-account Inv-loop μ-loop
+rem-account c = search needs
+
+cast-account-2 : tie.Need-cast-account-2 Inv-loop μ-loop
+cast-account-2 c = search needs
+
 add-account : tie.Need-add-account Inv-loop μ-loop
 add-account c = search needs
 
@@ -51,6 +57,8 @@ payments-spec =
     fresh-requires
     loop-holds
     cast-account
+    rem-account
+    cast-account-2
     add-account
     add-payment
     payment-requires
