@@ -1,0 +1,19 @@
+use borrow.Author.Needs.{needs}
+use Rattle.rules.specs.Answers.{replyOf}
+use Rattle.carry.proofs.refusal_number.Statement.{statement}
+use Rattle.carry.proofs.refusal_number.Tie as tie
+use Rattle.carry.proofs.refusal_number.Reads as reads
+use Rattle.carry.proofs.refusal_number.Lts as lts
+use Rattle.rules.proofs.answers.Answer.reply.Reads as reply-reads
+
+-- src/lib.rt:39:5
+reply-requires : tie.Need-reply-requires
+reply-requires c κs = search needs
+
+-- src/lib.rt:36:1
+returns : tie.Need-returns
+unfolding replyOf
+returns c = search needs
+
+pub refusal-number-spec : {M : Type 1} → statement M
+refusal-number-spec = tie.close (tie.spec reply-requires returns)
