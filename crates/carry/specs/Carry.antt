@@ -38,3 +38,7 @@ carryBookOf b rs results = cond (shortOf rs results) b (postsOf b rs)
 -- each refusal number, or 0, at the place of its entry; further places are unchanged
 unfoldable pub carryResultsOf : Book → List Raw → List ℕ → List ℕ
 carryResultsOf b rs results = cond (shortOf rs results) results (refusalsOf b rs ++ drop (length rs) results)
+
+-- carry_first takes no more entries at once; not a number of document 01
+abbrev pub atOnce : ℕ
+atOnce = 64
