@@ -3,13 +3,12 @@
 --     start            before the first turn.        next     after one more.        accepted      at the end
 --     refused          where the result list is too short
 use mathlib.Core.Path.{_≡_, refl, sym, _∙_, ap}
-use Prim.Native.Nat.{ℕ, suc, _+_, _-_, _<_, _≤_}
+use Prim.Native.Nat.{ℕ, _+_, _-_, _<_, _≤_}
 use native.Mathlib.Numerals.{add-one}
 use native.Mathlib.Omega.{arith}
-use mathlib.Core.Bool.{true}
+use mathlib.Core.Bool.{true, false}
 use mathlib.Core.List.{List, [], _∷_, _++_, append-assoc, append-nil}
 use mir.Val.{Val}
-use lib.Dec.{ltb}
 use lib.ListN.{length, take, drop, getD, set, length-set, take-append-drop}
 use lib.Seq.{drop-cons, take-suc-set, drop-set-lt, drop-drop, drop-length}
 use borrow.Author.Tests.{le-ltb}
@@ -23,7 +22,7 @@ use Rattle.book.proofs.Book as B
 use Rattle.book.proofs.Book.Laws as B′
 use Rattle.carry.specs.declared.Carried.{Carried}
 use Rattle.carry.specs.declared.CarryAnswer.the-variants.{Refused, Accepted}
-use Rattle.carry.specs.Carry.{postsOf, refusalsOf, carriedNumber, carryRefusalOf, carryBookOf, carryResultsOf}
+use Rattle.carry.specs.Carry.{CarryResult, postsOf, refusalsOf, shortOf, carryNumberOf, carryRefusalOf, carryBookOf, carryResultsOf, carriedOf, carryOf}
 
 -- the book's machine value
 abbrev pub lowB : Book → Val
@@ -54,11 +53,11 @@ refusals-end b xs = rw drop-length
 
 -- what the contract says of the result r and the result list zs at the end
 abbrev pub Said : Book → List Raw → List ℕ → Carried → List ℕ → Type 0
-Said b xs rs r zs = (r .book ≡ carryBookOf b xs rs) × (carriedNumber (r .answer) ≡ carryRefusalOf xs rs) × (zs ≡ carryResultsOf b xs rs)
+Said b xs rs r zs = (carriedOf r ≡ carryOf b xs rs) × (zs ≡ carryResultsOf b xs rs)
 
-pub refused : (b : Book) (xs : List Raw) (rs : List ℕ) → ltb (length rs) (length xs) ≡ true → Said b xs rs (record { book = b; answer = Refused ResultsShort }) rs
-unfolding carryBookOf carriedNumber carryRefusalOf carryResultsOf
-refused b xs rs e = (rw e refl, rw e refl, rw e refl)
+pub refused : (b : Book) (xs : List Raw) (rs : List ℕ) → shortOf xs rs ≡ true → Said b xs rs (record { book = b; answer = Refused ResultsShort }) rs
+unfolding carryBookOf carryNumberOf carryRefusalOf carryResultsOf
+refused b xs rs e = (rw e refl, rw e refl)
 
 module _ (b₀ : Book) (xs : List Raw) (rs : List ℕ) where
   pub record Turn : Type 0 where
@@ -123,6 +122,12 @@ module _ (b₀ : Book) (xs : List Raw) (rs : List ℕ) where
         told : take (t .i) (t .zs) ≡ refusalsOf b₀ xs
         told = sym (append-nil (take (t .i) (t .zs))) ∙ ap (λ (l : List ℕ). take (t .i) (t .zs) ++ l) (sym (refusals-end (t .book) xs) ∙ ap (λ (k : ℕ). refusalsOf (t .book) (drop k xs)) (sym all)) ∙ t .said
 
+    long : shortOf xs rs ≡ false
+    long = le-ltb (length rs) (length xs) fit
+
     pub accepted : Said b₀ xs rs (record { book = t .book; answer = Accepted }) (t .zs)
-    unfolding carryBookOf carriedNumber carryRefusalOf carryResultsOf
-    accepted = (rw (le-ltb (length rs) (length xs) fit) last-book, rw (le-ltb (length rs) (length xs) fit) refl, rw (le-ltb (length rs) (length xs) fit) last-results)
+    unfolding carryBookOf carryNumberOf carryRefusalOf carryResultsOf
+    accepted = (rw long (ap after last-book), rw long last-results)
+      where
+        after : Book → CarryResult
+        after b = record { book = b; refusal = 0 }

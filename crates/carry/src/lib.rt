@@ -7,7 +7,7 @@ ghost use mathlib.Core.Path.{_≡_};
 ghost use Prim.Native.Nat.{min};
 ghost use lib.ListN.{take};
 ghost use Rattle.rules.specs.Answers.{replyOf};
-ghost use Rattle.carry.specs.Carry.{atOnce, carriedNumber, carryRefusalOf, carryBookOf, carryResultsOf};
+ghost use Rattle.carry.specs.Carry.{carryNumberOf, carriedOf, carryOf, carryResultsOf, atOnce};
 
 pub enum CarryAnswer {
     Refused(Refusal),
@@ -23,7 +23,7 @@ pub struct Carried {
 impl CarryAnswer {
     // The refusal's number, and 0 where the carry-over is accepted.
     pub fn number(self) -> u8
-        ensures { λ r. ⌜ r ≡ carriedNumber self ⌝ }
+        ensures { λ r. ⌜ r ≡ carryNumberOf self ⌝ }
     {
         match self {
             CarryAnswer::Refused(refusal) => refusal.number(),
@@ -41,7 +41,7 @@ fn refusal_number(answer: Answer) -> u8
 
 // Posts each entry in turn, and writes its refusal number at the same place of the results.
 pub fn carry_over(mut book: Book, entries: &[Raw], results: &mut [u8]) -> Carried
-    ensures { λ r. ⌜ (r .book ≡ carryBookOf book (now (entries .entry)) (now (results .entry))) × (carriedNumber (r .answer) ≡ carryRefusalOf (now (entries .entry)) (now (results .entry))) × (now (results .exit) ≡ carryResultsOf book (now (entries .entry)) (now (results .entry))) ⌝ }
+    ensures { λ r. ⌜ (carriedOf r ≡ carryOf book (now (entries .entry)) (now (results .entry))) × (now (results .exit) ≡ carryResultsOf book (now (entries .entry)) (now (results .entry))) ⌝ }
 {
     if results.len() < entries.len() {
         return Carried {
@@ -75,7 +75,7 @@ fn taken(count: usize) -> usize
 // Carries over the first `count` entries of an array, or all of them where `count` is above its length. It lends them to
 // `carry_over`, so that its callers have no reference to a struct.
 pub fn carry_first(book: Book, entries: [Raw; AT_ONCE], count: usize, results: &mut [u8]) -> Carried
-    ensures { λ r. ⌜ (r .book ≡ carryBookOf book (take (min count atOnce) entries) (now (results .entry))) × (carriedNumber (r .answer) ≡ carryRefusalOf (take (min count atOnce) entries) (now (results .entry))) × (now (results .exit) ≡ carryResultsOf book (take (min count atOnce) entries) (now (results .entry))) ⌝ }
+    ensures { λ r. ⌜ (carriedOf r ≡ carryOf book (take (min count atOnce) entries) (now (results .entry))) × (now (results .exit) ≡ carryResultsOf book (take (min count atOnce) entries) (now (results .entry))) ⌝ }
 {
     let n = taken(count);
     carry_over(book, &entries[..n], results)

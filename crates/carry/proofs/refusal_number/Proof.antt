@@ -6,11 +6,9 @@ use Rattle.carry.proofs.refusal_number.Reads as reads
 use Rattle.carry.proofs.refusal_number.Lts as lts
 use Rattle.rules.proofs.answers.Answer.reply.Reads as reply-reads
 
--- src/lib.rt:39:5
 reply-requires : tie.Need-reply-requires
 reply-requires c κs = search needs
 
--- src/lib.rt:36:1
 returns : tie.Need-returns
 unfolding replyOf
 returns c = search needs

@@ -1,32 +1,27 @@
 use mathlib.Core.Path.{refl}
 use borrow.Author.Needs.{needs}
-use Rattle.carry.specs.Carry.{carriedNumber}
+use Rattle.carry.specs.Carry.{carryNumberOf}
 use Rattle.carry.proofs.CarryAnswer.number.Statement.{statement}
 use Rattle.carry.proofs.CarryAnswer.number.Tie as tie
 use Rattle.carry.proofs.CarryAnswer.number.Reads as reads
 use Rattle.carry.proofs.CarryAnswer.number.Lts as lts
 use Rattle.entries.proofs.refusals.Refusal.number.Reads as number-reads
 
--- src/lib.rt:29:34
 enum-known-self : tie.Need-enum-known-self
 enum-known-self c = search needs
 
--- src/lib.rt:29:46
 number-requires : tie.Need-number-requires
 number-requires c κs = search needs
 
--- src/lib.rt:30:38
 enum-told : tie.Need-enum-told
 enum-told c = search needs
 
--- src/lib.rt:25:5
 returns : tie.Need-returns
-unfolding carriedNumber
+unfolding carryNumberOf
 returns c = rw (c .before .before .self .given .1) (simp (c .number .ensures))
 
--- src/lib.rt:25:5
 returns-2 : tie.Need-returns-2
-unfolding carriedNumber
+unfolding carryNumberOf
 returns-2 c = search needs
 
 pub number-spec : {M : Type 1} → statement M
