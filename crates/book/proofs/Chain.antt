@@ -1,20 +1,20 @@
 -- Laws of the chain: places are inside the arrays, and a search goes link by link.
 use Prim.Native.Nat.{ℕ, zero, suc, _-_, _<_, _≤_}
 use mathlib.Core.Path.{_≡_, refl}
-use mathlib.Core.Bool.{Bool, true, false, cond, _||_}
+use mathlib.Core.Bool.{Bool, true, false, cond, not, _&&_, _||_}
 use mathlib.Core.List.{List}
 use native.Mathlib.Numerals.{sub-one}
 use native.Mathlib.Omega.{arith}
 use lib.ListN.{getD}
 use lib.Dec.{eqb, ltb}
-use borrow.Author.Tests.{eqb-false, ltb-false}
+use borrow.Author.Tests.{eqb-false, ltb-true, ltb-false}
 use Rattle.entries.specs.Entries.{noEntry, pointsAt}
 use Rattle.entries.specs.declared.raw.Raw.{Raw}
 use Rattle.entries.specs.declared.data.Entry.{Entry}
 use Rattle.rules.specs.declared.changes.Found.{Found}
 use Rattle.rules.specs.declared.changes.Found.the-variants.{At, Nothing}
 use Rattle.book.specs.Fresh.{accountsMost, entriesMost}
-use Rattle.book.specs.Chain.{slotOf, endsOf, findIn}
+use Rattle.book.specs.Chain.{slotOf, endsOf, walksOf, findIn}
 
 pub slot-inside : (account : ℕ) → slotOf account < accountsMost
 unfolding slotOf
@@ -34,6 +34,16 @@ link-inside at = go (eqb at 0) (ltb entriesMost at) refl refl
     go true t e l h = let z : _≡_ {A = ℕ} 0 1 = cc in absurd (omega arith)
     go false true e l h = let z : _≡_ {A = ℕ} 0 1 = cc in absurd (omega arith)
     go false false e l h = let z = eqb-false at 0 e in (omega arith, ltb-false entriesMost at l)
+
+-- where a search goes on, links are left and the chain does not end
+pub walks-on : (at left : ℕ) → walksOf at left ≡ true → (0 < left) × (endsOf at ≡ false)
+unfolding walksOf
+walks-on at left = go (ltb 0 left) (endsOf at) refl
+  where
+    go : (s t : Bool) → ltb 0 left ≡ s → s && not t ≡ true → (0 < left) × (t ≡ false)
+    go true true e h = let z : _≡_ {A = ℕ} 0 1 = cc in absurd (omega arith)
+    go true false e h = (ltb-true 0 left e, refl)
+    go false t e h = let z : _≡_ {A = ℕ} 0 1 = cc in absurd (omega arith)
 
 -- what was found before, or else what is found from here
 abbrev pub orElse : Found → Found → Found
@@ -64,6 +74,18 @@ pub findIn-miss : {fuel : ℕ} (es : List Entry) (r : Raw) (at : ℕ) → 0 < fu
 unfolding findIn
 findIn-miss {fuel = zero} es r at h e p = absurd (omega arith)
 findIn-miss {fuel = suc f} es r at h e p = rw (sub-one (suc f)) (simp (e, p))
+
+-- where a search does not go on, it finds nothing
+pub findIn-stops : (es : List Entry) (r : Raw) (fuel at : ℕ) → walksOf at fuel ≡ false → findIn es r fuel at ≡ Nothing
+unfolding walksOf
+findIn-stops es r fuel at = go (ltb 0 fuel) (endsOf at) refl refl
+  where
+    go : (s t : Bool) → ltb 0 fuel ≡ s → endsOf at ≡ t → s && not t ≡ false → findIn es r fuel at ≡ Nothing
+    go true true l e h = findIn-ends es r at (ltb-true 0 fuel l) e
+    go true false l e h = let z : _≡_ {A = ℕ} 0 1 = cc in absurd (omega arith)
+    go false t l e h =
+        let z : fuel ≡ 0 = omega (arith, ltb-false 0 fuel l) in
+        rw z (findIn-none es r at)
 
 -- what is found stands in the array
 abbrev pub Inside : Found → Type 0

@@ -1,6 +1,6 @@
 -- An account's chain, and the search for a named entry along it.
 use Prim.Native.Nat.{ℕ, zero, suc, _-_}
-use mathlib.Core.Bool.{Bool, cond, _||_}
+use mathlib.Core.Bool.{Bool, cond, not, _&&_, _||_}
 use mathlib.Core.List.{List}
 use lib.ListN.{getD}
 use lib.Dec.{eqb, ltb}
@@ -24,6 +24,10 @@ endsOf at = eqb at 0 || ltb entriesMost at
 -- an account's chain begins at its newest entry; a kind that names nothing searches nothing
 unfoldable pub startOf : Kind → ℕ → ℕ
 startOf k newest = cond (namesOf k) newest 0
+
+-- a search goes on while links are left and the chain does not end
+unfoldable pub walksOf : ℕ → ℕ → Bool
+walksOf at left = ltb 0 left && not (endsOf at)
 
 -- the place of the entry that r names, along at most fuel links from the entry of a number
 unfoldable pub findIn : List Entry → Raw → ℕ → ℕ → Found

@@ -4,6 +4,7 @@ use entries::Entry;
 use entries::Kind;
 use entries::Raw;
 use entries::Refusal;
+use entries::both;
 use entries::one_more;
 use entries::within;
 use rules::Account;
@@ -15,7 +16,7 @@ use rules::effect;
 ghost use mathlib.Core.Path.{_≡_};
 ghost use Rattle.book.specs.Fresh.{freshBook};
 ghost use Rattle.book.specs.Serials.{lastOf, afterOf};
-ghost use Rattle.book.specs.Chain.{slotOf, endsOf, startOf};
+ghost use Rattle.book.specs.Chain.{slotOf, endsOf, startOf, walksOf};
 ghost use Rattle.book.specs.Refusals.{checkEntryOf, outcomeOf};
 ghost use Rattle.book.specs.Posting.{resultOf, postOf};
 
@@ -92,6 +93,13 @@ fn start(kind: Kind, newest: u16) -> u16
     if kind.names() { newest } else { 0 }
 }
 
+// Whether a search at a link with some links left goes on.
+fn walks(at: u16, left: u16) -> bool
+    ensures { λ r. ⌜ r ≡ walksOf at left ⌝ }
+{
+    both(0 < left, !ends(at))
+}
+
 // 1 to 7: the refusals that the entry, its node's last serial and the number of entries decide.
 fn check_entry(raw: Raw, kind: Kind, count: u16, last: u32) -> Check
     ensures { λ r. ⌜ r ≡ checkEntryOf raw kind count last ⌝ }
@@ -159,36 +167,29 @@ impl Book {
         let last = self.last;
         let a = slot(raw.account);
         let account = self.accounts[a];
-        let newest = account.newest;
-        let mut at = start(Kind::of(raw.kind), newest);
+        let mut at = start(Kind::of(raw.kind), account.newest);
         let mut lookup = Found::Nothing;
         let mut named = Entry::unused();
         let mut left = Book::ENTRIES as u16;
-        while 0 < left {
-            if ends(at) {
+        while walks(at, left) {
+            let i = at as usize - 1;
+            let entry = self.entries[i];
+            at = entry.next;
+            left -= 1;
+            if raw.points_at(entry) {
+                lookup = Found::At(i);
+                named = entry;
                 left = 0;
-            } else {
-                let i = at as usize - 1;
-                let entry = self.entries[i];
-                if raw.points_at(entry) {
-                    lookup = Found::At(i);
-                    named = entry;
-                    left = 0;
-                } else {
-                    at = entry.next;
-                    left -= 1;
-                }
             }
         }
         let outcome = outcome(raw, count, last.of(raw.node), account, lookup, named);
         let number = one_more(count);
         let answer = outcome.answer(number);
         if let Outcome::Accepted(change) = outcome {
-            let end = count as usize;
             let data = change.data;
             let names = change.names;
             let changed = change.named;
-            self.entries[end] = raw.entry(newest, data);
+            self.entries[count as usize] = raw.entry(account.newest, data);
             self.accounts[a] = change.account.numbered(number);
             self.count = number;
             self.last = last.after(raw);
