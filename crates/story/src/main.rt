@@ -1,10 +1,13 @@
 // Two nodes of a pair: posts the entries of a table to their books, carries entries over, and prints the statements of both.
 use book::Book;
-use carry::{AT_ONCE, carry_first};
+use carry::AT_ONCE;
+use carry::carry_first;
 use entries::Raw;
-use image::{LoadAnswer, Loaded};
+use image::LoadAnswer;
+use image::Loaded;
 use printer::print_loaded;
-use tables::{read_row, start_of_number};
+use tables::read_row;
+use tables::start_of_number;
 
 struct Pair {
     first: Book,
@@ -44,13 +47,17 @@ fn post(book: Book, entry: Raw) -> Book {
     p.book
 }
 
+fn print_result(refusal: u8) {
+    print(b"carried over: refusal ", refusal as u64);
+    io::write_all(1, b"\n");
+}
+
 // Carries the entry over and prints its place of the result list.
 fn carry(book: Book, entry: Raw) -> Book {
     let entries = [entry; AT_ONCE];
     let mut results = [255u8; 1];
     let carried = carry_first(book, entries, 1, &mut results);
-    print(b"carried over: refusal ", results[0] as u64);
-    io::write_all(1, b"\n");
+    print_result(results[0]);
     carried.book
 }
 
@@ -74,11 +81,21 @@ fn step(pair: Pair, fields: [u32; 12]) -> Pair {
         return pair;
     }
     let book = if node == 1 { first } else { second };
-    let after = if what == 1 { post(book, raw(fields)) } else { carry(book, raw(fields)) };
-    if node == 1 {
-        Pair { first: after, second }
+    let after = if what == 1 {
+        post(book, raw(fields))
     } else {
-        Pair { first, second: after }
+        carry(book, raw(fields))
+    };
+    if node == 1 {
+        Pair {
+            first: after,
+            second,
+        }
+    } else {
+        Pair {
+            first,
+            second: after,
+        }
     }
 }
 

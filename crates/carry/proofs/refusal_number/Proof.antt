@@ -2,9 +2,6 @@ use borrow.Author.Needs.{needs}
 use Rattle.rules.specs.Answers.{replyOf}
 use Rattle.carry.proofs.refusal_number.Statement.{statement}
 use Rattle.carry.proofs.refusal_number.Tie as tie
-use Rattle.carry.proofs.refusal_number.Reads as reads
-use Rattle.carry.proofs.refusal_number.Lts as lts
-use Rattle.rules.proofs.answers.Answer.reply.Reads as reply-reads
 
 reply-requires : tie.Need-reply-requires
 reply-requires c κs = search needs

@@ -1,11 +1,7 @@
-use mathlib.Core.Path.{refl}
 use borrow.Author.Needs.{needs}
 use Rattle.carry.specs.Carry.{carryNumberOf}
 use Rattle.carry.proofs.CarryAnswer.number.Statement.{statement}
 use Rattle.carry.proofs.CarryAnswer.number.Tie as tie
-use Rattle.carry.proofs.CarryAnswer.number.Reads as reads
-use Rattle.carry.proofs.CarryAnswer.number.Lts as lts
-use Rattle.entries.proofs.refusals.Refusal.number.Reads as number-reads
 
 enum-known-self : tie.Need-enum-known-self
 enum-known-self c = search needs
