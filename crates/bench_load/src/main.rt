@@ -1,5 +1,6 @@
 // Writes to standard error what the load of a full image costs, in hundredths of the time of 1,024 copies of the book.
 use book::Book;
+use codec::LONGEST;
 use image::LoadAnswer;
 use image::load;
 use timing::copying;
@@ -24,7 +25,7 @@ fn loads(image: &[u8], n: u32) -> u32 {
 
 fn main() {
     // A full image: 1,024 payments to one account.
-    let mut image = [0u8; 24600];
+    let mut image = [0u8; LONGEST];
     let n = io::read_full(0, &mut image);
     let copy = copying(Book::fresh(), 102400);
     let start = now();

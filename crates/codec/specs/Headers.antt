@@ -9,6 +9,11 @@ use Rattle.entries.specs.declared.refusals.Refusal.the-variants as no
 use Rattle.entries.specs.declared.refusals.Check.{Check}
 use Rattle.entries.specs.declared.refusals.Check.the-variants as check
 use Rattle.codec.specs.Bytes.{le, un, eqList}
+use Rattle.codec.specs.Records.{recordBytes}
+
+-- the bytes of the longest image: the header and 1,024 records
+abbrev pub longest : ℕ
+longest = 24600
 
 -- CHB1
 abbrev pub mark : List ℕ
@@ -24,7 +29,7 @@ countIn l = un (take 2 (drop 4 l))
 
 -- 24 to 24,600 bytes, a multiple of 24
 abbrev pub fitsOf : ℕ → Bool
-fitsOf n = (leb 24 n && leb n 24600) && eqb (n % 24) 0
+fitsOf n = (leb recordBytes n && leb n longest) && eqb (n % recordBytes) 0
 
 -- the mark is CHB1, and the header's bytes from 6 to 23 are zero
 abbrev pub marked : List ℕ → Bool
@@ -34,7 +39,7 @@ abbrev pub imageRows : List ℕ → List Row
 imageRows l =
     (not (fitsOf (length l)) ⇒ no.ImageLength) ∷
     (not (marked l) ⇒ no.ImageHeader) ∷
-    (not (eqb (countIn l) (length l / 24 - 1)) ⇒ no.ImageCount) ∷
+    (not (eqb (countIn l) (length l / recordBytes - 1)) ⇒ no.ImageCount) ∷
     []
 
 unfoldable pub checkOf : List ℕ → Check

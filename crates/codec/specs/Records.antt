@@ -5,6 +5,10 @@ use lib.ListN.{getD, drop}
 use Rattle.codec.specs.Layouts.{pack, unpack, Fit}
 use Rattle.codec.specs.declared.Record.{Record}
 
+-- the bytes of a record, and of the header
+abbrev pub recordBytes : ℕ
+recordBytes = 24
+
 -- kind, node, account, day, next index, serial, amount, named serial, a, b, named node
 abbrev pub layout : List ℕ
 layout = 1 ∷ 1 ∷ 2 ∷ 2 ∷ 2 ∷ 4 ∷ 4 ∷ 4 ∷ 2 ∷ 1 ∷ 1 ∷ []
@@ -54,9 +58,9 @@ encodeRecord r = pack layout (fieldsOf r)
 unfoldable pub decodeRecord : List ℕ → Record
 decodeRecord l = recordOf (unpack layout l)
 
--- record i stands at byte 24 × i
+-- record i stands at byte 24 × i; record 0 is the header
 abbrev pub recordIn : List ℕ → ℕ → Record
-recordIn l i = decodeRecord (drop (24 * i) l)
+recordIn l i = decodeRecord (drop (recordBytes * i) l)
 
 abbrev pub encodeAll : List Record → List ℕ
 encodeAll [] = []
@@ -65,7 +69,7 @@ encodeAll (r ∷ rs) = encodeRecord r ++ encodeAll rs
 -- so many records, one after another
 abbrev pub decodeAll : ℕ → List ℕ → List Record
 decodeAll zero l = []
-decodeAll (suc n) l = decodeRecord l ∷ decodeAll n (drop 24 l)
+decodeAll (suc n) l = decodeRecord l ∷ decodeAll n (drop recordBytes l)
 
 abbrev pub AllInRange : List Record → Type 0
 AllInRange [] = Unit {0}

@@ -7,8 +7,14 @@ ghost use mathlib.Core.Path.{_≡_};
 ghost use Prim.Native.Nat.{_+_, _*_, _<_};
 ghost use lib.ListN.{getD, take, drop};
 ghost use Rattle.codec.specs.Bytes.{un, eqList};
-ghost use Rattle.codec.specs.Records.{encodeRecord, recordIn};
+ghost use Rattle.codec.specs.Records.{recordBytes, encodeRecord, recordIn};
 ghost use Rattle.codec.specs.Headers.{headerOf, countIn, fitsOf, checkOf};
+
+// The bytes of a record, and of the header.
+pub const RECORD: usize = 24;
+
+// The bytes of the longest image: the header and 1,024 records.
+pub const LONGEST: usize = 24600;
 
 // An entry as it is given, and its next index.
 pub struct Record {
@@ -37,26 +43,26 @@ fn wide(image: &[u8], at: usize) -> u32
 
 // The place of a record's field. Record 0 is the header.
 fn place(number: u16, offset: u16) -> usize
-    ensures { λ r. ⌜ r ≡ 24 * number + offset ⌝ }
+    ensures { λ r. ⌜ r ≡ recordBytes * number + offset ⌝ }
 {
-    24 * number as usize + offset as usize
+    RECORD * number as usize + offset as usize
 }
 
 fn u8_in(image: &[u8], number: u16, offset: u16) -> u8
-    ensures { λ r. ⌜ r ≡ getD (now (image .entry)) (24 * number + offset) 0 ⌝ }
+    ensures { λ r. ⌜ r ≡ getD (now (image .entry)) (recordBytes * number + offset) 0 ⌝ }
 {
     byte_at(image, place(number, offset))
 }
 
 fn u16_in(image: &[u8], number: u16, offset: u16) -> u16
-    ensures { λ r. ⌜ r ≡ un (take 2 (drop (24 * number + offset) (now (image .entry)))) ⌝ }
+    ensures { λ r. ⌜ r ≡ un (take 2 (drop (recordBytes * number + offset) (now (image .entry)))) ⌝ }
 {
     let at = place(number, offset);
     low(image, at) + 256 * low(image, at + 1)
 }
 
 fn u32_in(image: &[u8], number: u16, offset: u16) -> u32
-    ensures { λ r. ⌜ r ≡ un (take 4 (drop (24 * number + offset) (now (image .entry)))) ⌝ }
+    ensures { λ r. ⌜ r ≡ un (take 4 (drop (recordBytes * number + offset) (now (image .entry)))) ⌝ }
 {
     let at = place(number, offset);
     wide(image, at)
@@ -92,8 +98,8 @@ pub fn record_in(image: &[u8], number: u16) -> Record
     }
 }
 
-// The 24 bytes of a record.
-pub fn encode(raw: Raw, next: u16) -> [u8; 24]
+// The bytes of a record.
+pub fn encode(raw: Raw, next: u16) -> [u8; RECORD]
     ensures { λ r. ⌜ r ≡ encodeRecord (record { raw = raw; next = next }) ⌝ }
 {
     [
@@ -125,7 +131,7 @@ pub fn encode(raw: Raw, next: u16) -> [u8; 24]
 }
 
 // The header of an image with so many records.
-pub fn header(count: u16) -> [u8; 24]
+pub fn header(count: u16) -> [u8; RECORD]
     ensures { λ r. ⌜ r ≡ headerOf count ⌝ }
 {
     [
@@ -177,7 +183,7 @@ fn same(a: &[u8], b: &[u8]) -> bool
 fn fits(n: usize) -> bool
     ensures { λ r. ⌜ r ≡ fitsOf n ⌝ }
 {
-    both(both(24 <= n, n <= 24600), n % 24 == 0)
+    both(both(RECORD <= n, n <= LONGEST), n % RECORD == 0)
 }
 
 // 17 to 19: the length, the header, the count.
@@ -190,10 +196,10 @@ pub fn check(image: &[u8]) -> Check
     }
     let mark = [b'C', b'H', b'B', b'1'];
     let zeros = [0u8; 18];
-    if !both(same(&image[..4], &mark), same(&image[6..24], &zeros)) {
+    if !both(same(&image[..4], &mark), same(&image[6..RECORD], &zeros)) {
         return Check::Refused(Refusal::ImageHeader);
     }
-    if count_in(image) as usize != n / 24 - 1 {
+    if count_in(image) as usize != n / RECORD - 1 {
         return Check::Refused(Refusal::ImageCount);
     }
     Check::Passed

@@ -18,7 +18,7 @@ use Rattle.image.specs.Saves.{SaveReply, sizeOf, recordsOf, bytesOf, ima
 use Rattle.image.specs.Loads.{LoadReply, wholeOf, failedOf, loadOf}
 use Rattle.image.specs.Rounds.{Reloads, reloadOf, resaveOf, resavedIn}
 use Rattle.image.proofs.Saving.{length-image}
-use Rattle.image.proofs.Trips.{image-loads, saved-loads, loaded-saves, loaded-full}
+use Rattle.image.proofs.Trips.{saved-loads, loaded-saves, loaded-full}
 
 -- what a save that was accepted tells
 pub record Done (b : Book) (l : List ℕ) (n : ℕ) : Type 0 where
@@ -62,7 +62,7 @@ reload-done b l m n r full h saved written read =
     let loads : r ≡ loadOf (imageOf b) = read ∙ ap loadOf whole in
     record {
       saved = written;
-      loaded = loads ∙ rw (le-ltb (length l) (bytesOf b) (omega arith)) (image-loads b full h);
+      loaded = loads ∙ rw (le-ltb (length l) (bytesOf b) (omega arith)) refl;
       same = λ rs e k. loads ∙ saved-loads rs b e h;
     }
 

@@ -147,7 +147,7 @@ size-count : (b : Book) → Good b → sizeOf b ≡ b .count
 size-count b g = min-eq-left (g .few)
 
 -- a saved image passes the checks, and its records are the book's
-pub image-loads : (b : Book) → length (b .entries) ≡ entriesMost → AllInRange (recordsOf b (sizeOf b)) →
+image-loads : (b : Book) → length (b .entries) ≡ entriesMost → AllInRange (recordsOf b (sizeOf b)) →
     loadOf (imageOf b) ≡ loadAll (recordsOf b (sizeOf b)) freshBook 1
 unfolding imageOf
 image-loads b full h =

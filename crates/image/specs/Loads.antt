@@ -10,7 +10,7 @@ use Rattle.entries.specs.declared.refusals.Check.{Check}
 use Rattle.entries.specs.declared.refusals.Check.the-variants as check
 use Rattle.rules.specs.declared.answers.Answer.{Answer}
 use Rattle.rules.specs.declared.answers.Answer.the-variants as answer
-use Rattle.codec.specs.Records.{decodeAll}
+use Rattle.codec.specs.Records.{recordBytes, decodeAll}
 use Rattle.codec.specs.Headers.{countIn, checkOf}
 use Rattle.codec.specs.declared.Record.{Record}
 use Rattle.book.specs.Fresh.{freshBook}
@@ -41,12 +41,14 @@ wholeOf b = record { book = b; refusal = 0; faulty = 0 }
 abbrev pub failedOf : ℕ → ℕ → LoadReply
 failedOf n i = record { book = freshBook; refusal = n; faulty = i }
 
--- 20: a record's next index is not its account's previous entry
+-- what the code decides of a record, by the answer of its posting, its next index and its account's newest entry;
+-- no promise of a call cites it
 unfoldable pub verdictOf : Answer → ℕ → ℕ → Check
 verdictOf (answer.Refused n) next newest = check.Refused n
 verdictOf (answer.Accepted number amounts) next newest = ruleOf check.Passed (not (eqb next newest)) no.NextIndex
 
--- the refusal of a record by 1 to 16 as posted and then by 20, or 0
+-- the refusal of a record, or 0: by 1 to 16 as posted, and then
+-- 20: a record's next index is not its account's previous entry
 unfoldable pub stopOf : Book → Record → ℕ
 stopOf b r =
     let posted = postOf b (r .raw) .reply .refusal in
@@ -61,7 +63,7 @@ loadAll (r ∷ rs) b i = cond (eqb (stopOf b r) 0) (loadAll rs (postOf b (r .raw
 
 -- the records of an image
 abbrev pub recordsIn : List ℕ → List Record
-recordsIn l = decodeAll (countIn l) (drop 24 l)
+recordsIn l = decodeAll (countIn l) (drop recordBytes l)
 
 -- 17, 18, 19 first, with no record at fault; then the records, posted to a book begun fresh
 unfoldable pub begunOf : List ℕ → Check → LoadReply

@@ -14,8 +14,8 @@ use Rattle.codec.specs.declared.Record.{Record}
 use Rattle.book.specs.Fresh.{freshBook}
 use Rattle.book.specs.Posting.{postOf}
 use Rattle.book.specs.declared.Book.{Book}
-use Rattle.image.specs.Saves.{SaveReply, refusedSave, acceptedSave, sizeOf, bytesOf, recordsOf, imageOf, savedIn}
-use Rattle.image.specs.Loads.{LoadReply, wholeOf, failedOf, loadAll, loadOf, recordsIn}
+use Rattle.image.specs.Saves.{SaveReply, refusedSave, acceptedSave, bytesOf, imageOf, savedIn}
+use Rattle.image.specs.Loads.{LoadReply, wholeOf, failedOf, loadOf, recordsIn}
 
 -- the book that a list of postings leaves, refused ones included
 abbrev pub postedAll : Book → List Raw → Book
@@ -41,15 +41,17 @@ pub record RoundTrips : Type 0 where
   -- The book that a load accepts is the one that the postings of its records leave.
   pub loaded-posted : (l : List ℕ) → loadOf l .refusal ≡ 0 → loadOf l .book ≡ postedAll freshBook (map rawIn (recordsIn l))
 
--- a save and a load of what it wrote
+-- a save and a load of what it wrote; where the buffer is short nothing is loaded, and 21 is given
 unfoldable pub reloadOf : Book → List ℕ → LoadReply
 reloadOf b buf =
-    cond (ltb (length buf) (bytesOf b)) (failedOf (refusalNumber no.BufferShort) 0) (loadAll (recordsOf b (sizeOf b)) freshBook 1)
+    cond (ltb (length buf) (bytesOf b)) (failedOf (refusalNumber no.BufferShort) 0) (loadOf (imageOf b))
 
 pub record Reloads (b : Book) (before after : List ℕ) (r : LoadReply) : Type 0 where
+  -- the buffer is as a save leaves it
   pub saved : after ≡ savedIn b before
+  -- what is given is the load of the bytes that were written
   pub loaded : r ≡ reloadOf b before
-  -- of a book that postings leave it is that book
+  -- of a book that postings leave, where the buffer has room, it is that book, whole
   pub same : (rs : List Raw) → b ≡ postedAll freshBook rs → bytesOf b ≤ length before → r ≡ wholeOf b
 
 -- a load and a save of what was loaded: the same bytes

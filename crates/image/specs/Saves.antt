@@ -7,7 +7,7 @@ use lib.Dec.{ltb}
 use Rattle.entries.specs.Refusals.{refusalNumber}
 use Rattle.entries.specs.declared.refusals.Refusal.the-variants as no
 use Rattle.entries.specs.declared.data.Entry.{Entry}
-use Rattle.codec.specs.Records.{encodeAll}
+use Rattle.codec.specs.Records.{recordBytes, encodeAll}
 use Rattle.codec.specs.Headers.{headerOf}
 use Rattle.codec.specs.declared.Record.{Record}
 use Rattle.book.specs.Fresh.{entriesMost}
@@ -30,9 +30,9 @@ sizeOf b = min (b .count) entriesMost
 abbrev pub recordsOf : Book → ℕ → List Record
 recordsOf b n = map recordOf (take n (b .entries))
 
--- 24 × (entries + 1) bytes
+-- the bytes of an image: 24 × (entries + 1)
 abbrev pub bytesOf : Book → ℕ
-bytesOf b = 24 * (sizeOf b + 1)
+bytesOf b = recordBytes * (sizeOf b + 1)
 
 -- the header, and a record for each entry
 unfoldable pub imageOf : Book → List ℕ

@@ -9,5 +9,4 @@ pub use loads::load;
 pub use rounds::reload;
 pub use rounds::resave;
 pub use saves::Saved;
-pub use saves::raw_of;
 pub use saves::save;

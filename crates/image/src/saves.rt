@@ -1,5 +1,6 @@
 // A save.
 use book::Book;
+use codec::RECORD;
 use codec::encode;
 use codec::header;
 use entries::Data;
@@ -76,7 +77,7 @@ fn customer(entry: Entry, node: u8, serial: u32, shared: Metres, phases: u8) -> 
 }
 
 // The entry as it was given.
-pub fn raw_of(entry: Entry) -> Raw
+fn raw_of(entry: Entry) -> Raw
     ensures { λ r. ⌜ r ≡ rawOf entry ⌝ }
 {
     let what = entry.data;
@@ -131,7 +132,8 @@ fn put(buf: &mut [u8], at: usize, bytes: &[u8])
 fn size(count: u16) -> u16
     ensures { λ r. ⌜ (r ≡ min count entriesMost) × (r ≤ entriesMost) ⌝ }
 {
-    if count < 1024 { count } else { 1024 }
+    let most = Book::ENTRIES as u16;
+    if count < most { count } else { most }
 }
 
 // Writes the book's image at the start of a buffer that has room for it (21).
@@ -140,7 +142,7 @@ pub fn save(book: Book, buf: &mut [u8]) -> Saved
 {
     let size = size(book.count);
     let count = size as usize;
-    let total = 24 * (count + 1);
+    let total = RECORD * (count + 1);
     if buf.len() < total {
         return Saved::Refused(Refusal::BufferShort);
     }
@@ -150,7 +152,7 @@ pub fn save(book: Book, buf: &mut [u8]) -> Saved
     while i < count {
         let entry = book.entries[i];
         let bytes = encode(raw_of(entry), entry.next);
-        put(buf, 24 * (i + 1), &bytes);
+        put(buf, RECORD * (i + 1), &bytes);
         i += 1;
     }
     Saved::Length(total)

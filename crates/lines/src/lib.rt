@@ -8,7 +8,7 @@ ghost use Rattle.lines.specs.Decimal.{digits};
 ghost use Rattle.lines.specs.Lines.{space, lineOf, accountLine, endLine, refusedLine, bufferAfter, lengthAfter};
 
 // No line is longer.
-const LONGEST: usize = 128;
+pub const LONGEST: usize = 128;
 
 // Puts a space and a number in decimal at a place of a text, and gives the place after it. A number has at most 20 digits.
 fn number(text: &mut [u8], at: usize, n: u64) -> usize

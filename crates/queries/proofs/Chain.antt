@@ -9,7 +9,6 @@ use lib.ListN.{length, getD}
 use Rattle.entries.specs.Entries.{noEntry, pointsAt}
 use Rattle.entries.specs.declared.raw.Raw.{Raw}
 use Rattle.entries.specs.declared.data.Entry.{Entry}
-use Rattle.rules.specs.declared.changes.Found.{Found}
 use Rattle.rules.specs.declared.changes.Found.the-variants.{At, Nothing}
 use Rattle.book.specs.Chain.{endsOf, findIn, entryAt}
 use Rattle.queries.specs.Chain.{chainOf, carries, soughtOf}

@@ -1,6 +1,6 @@
 -- What a walk of the account's chain makes of a statement, and what no such account does.
 use Prim.Native.Nat.{ℕ}
-use mathlib.Core.Path.{_≡_, refl}
+use mathlib.Core.Path.{_≡_}
 use mathlib.Core.Bool.{true, false}
 use native.Mathlib.Omega.{arith}
 use Rattle.entries.specs.Ranges.{between}

@@ -2,8 +2,6 @@
 use Prim.Native.Nat.{ℕ}
 use mathlib.Core.Bool.{Bool, false, not}
 use mathlib.Core.List.{List, [], _∷_}
-use Rattle.measures.specs.declared.Cents.{Cents}
-use Rattle.entries.specs.Kinds.{sameOf}
 use Rattle.entries.specs.Ranges.{between}
 use Rattle.entries.specs.Refusals.{refusalNumber, Row, _⇒_, firstOf}
 use Rattle.entries.specs.declared.data.Data.{Data}
@@ -14,7 +12,6 @@ use Rattle.entries.specs.declared.refusals.Check.the-variants as check
 use Rattle.book.specs.Fresh.{accountsMost}
 use Rattle.book.specs.declared.Book.{Book}
 use Rattle.queries.specs.Chain.{chainAt, soughtOf}
-use Rattle.queries.specs.declared.contributions.ContributionFigures.{ContributionFigures}
 use Rattle.queries.specs.declared.contributions.ContributionAnswer.{ContributionAnswer}
 use Rattle.queries.specs.declared.contributions.ContributionAnswer.the-variants.{Refused, Given}
 use Rattle.queries.specs.declared.contributions.ContributionReply.{ContributionReply}

@@ -13,7 +13,7 @@ ghost use mathlib.Core.Path.{_≡_};
 ghost use Rattle.entries.specs.Refusals.{firstOf};
 ghost use Rattle.entries.specs.declared.refusals.Check.the-variants.{Passed};
 ghost use Rattle.queries.specs.Chain.{carries};
-ghost use Rattle.queries.specs.Contribution.{contributionReplyOf, contributionRows, figuresOf, decidedOf, contributionQueryOf};
+ghost use Rattle.queries.specs.Contribution.{contributionReplyOf, contributionRows, figuresOf, contributionQueryOf};
 
 pub struct ContributionFigures {
     pub amount: Cents,
@@ -74,7 +74,7 @@ impl ContributionAnswer {
 }
 
 // 2 and 3: the refusals that node and account decide.
-fn check_pair(account: u16, node: u8) -> Check
+fn check_query(account: u16, node: u8) -> Check
     ensures { λ r. ⌜ r ≡ firstOf Passed (contributionRows account node) ⌝ }
 {
     Check::Passed
@@ -86,7 +86,7 @@ fn check_pair(account: u16, node: u8) -> Check
 }
 
 // Whether an entry carries the pair of node and serial.
-fn carried(entry: Entry, node: u8, serial: u32) -> bool
+fn carries(entry: Entry, node: u8, serial: u32) -> bool
     ensures { λ r. ⌜ r ≡ carries node serial entry ⌝ }
 {
     both(entry.node == node, entry.serial == serial)
@@ -124,7 +124,7 @@ fn figures(what: Data) -> ContributionAnswer
 pub fn contribution_query(book: Book, account: u16, node: u8, serial: u32) -> ContributionAnswer
     ensures { λ r. ⌜ contributionReplyOf r ≡ contributionQueryOf book account node serial ⌝ }
 {
-    if let Check::Refused(refusal) = check_pair(account, node) {
+    if let Check::Refused(refusal) = check_query(account, node) {
         return ContributionAnswer::Refused(refusal);
     }
     let a = slot(account);
@@ -138,7 +138,7 @@ pub fn contribution_query(book: Book, account: u16, node: u8, serial: u32) -> Co
         } else {
             let i = at as usize - 1;
             let entry = book.entries[i];
-            if carried(entry, node, serial) {
+            if carries(entry, node, serial) {
                 sought = entry;
                 left = 0;
             } else {

@@ -11,7 +11,6 @@ use entries::within;
 use measures::Cents;
 use rules::Account;
 ghost use mathlib.Core.Path.{_≡_};
-ghost use Rattle.measures.specs.Cents.{cents};
 ghost use Rattle.queries.specs.Walk.{standingIn, noSums, sumsWith, figuresOf};
 ghost use Rattle.queries.specs.Statement.{statementReplyOf, statementOf};
 

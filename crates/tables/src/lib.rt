@@ -1,8 +1,12 @@
 // Tables of numbers as text: rows of numbers, and comments from '#' to the end of the line.
+ghost use Prim.Native.Nat.{_≤_};
+ghost use mathlib.Core.Path.{_≡_};
+ghost use mathlib.Core.Bool.{true};
+
 // A number of the text, and where the text goes on.
-pub struct Parsed {
-    pub value: u32,
-    pub next: usize,
+struct Parsed {
+    value: u32,
+    next: usize,
 }
 
 pub struct Row {
@@ -10,8 +14,11 @@ pub struct Row {
     pub next: usize,
 }
 
-fn is_digit(byte: u8) -> bool {
-    if 48 <= byte { byte <= 57 } else { false }
+// Whether a byte is one from '0', 48, to '9', 57.
+fn is_digit(byte: u8) -> bool
+    ensures { λ r. ⌜ (r ≡ true → (48 ≤ byte) × (byte ≤ 57)) ⌝ }
+{
+    if b'0' <= byte { byte <= b'9' } else { false }
 }
 
 // Where the next number begins, or the text's length.
@@ -20,9 +27,9 @@ pub fn start_of_number(text: &[u8], from: usize) -> usize {
     let mut comment = false;
     while at < text.len() {
         let byte = text[at];
-        if byte == 35 {
+        if byte == b'#' {
             comment = true;
-        } else if byte == 10 {
+        } else if byte == b'\n' {
             comment = false;
         } else if !comment {
             if is_digit(byte) {
@@ -34,7 +41,7 @@ pub fn start_of_number(text: &[u8], from: usize) -> usize {
     text.len()
 }
 
-pub fn number(text: &[u8], from: usize) -> Parsed {
+fn number(text: &[u8], from: usize) -> Parsed {
     let mut at = from;
     let mut value: u64 = 0;
     while at < text.len() {
@@ -45,7 +52,7 @@ pub fn number(text: &[u8], from: usize) -> Parsed {
                 next: at,
             };
         }
-        value = (value * 10 + (byte % 16) as u64) % 4294967296;
+        value = (value * 10 + (byte - b'0') as u64) % 4294967296;
         at += 1;
     }
     Parsed {

@@ -4,18 +4,13 @@ use lib.ListN.{List·getD-eq-default}
 use borrow.Author.Needs.{needs}
 use Rattle.codec.proofs.byte_at.Statement.{statement}
 use Rattle.codec.proofs.byte_at.Tie as tie
-use Rattle.codec.proofs.byte_at.Reads as reads
-use Rattle.codec.proofs.byte_at.Lts as lts
 
--- src/lib.rt:23:27
 shared-slice-read-result : tie.Need-shared-slice-read-result
 shared-slice-read-result c = search needs
 
--- src/lib.rt:20:1
 returns : tie.Need-returns
 returns c = search needs
 
--- src/lib.rt:20:1
 returns-2 : tie.Need-returns-2
 returns-2 c = sym (List·getD-eq-default (now (c .before .args .image)) 0 {n = c .before .args .at} (c .if1 .left))
 

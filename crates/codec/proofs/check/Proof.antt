@@ -11,12 +11,6 @@ use Rattle.codec.proofs.Headers.{fits-ends, refused-stays, rule-broken,
 use borrow.Author.Needs.{needs}
 use Rattle.codec.proofs.check.Statement.{statement}
 use Rattle.codec.proofs.check.Tie as tie
-use Rattle.codec.proofs.check.Reads as reads
-use Rattle.codec.proofs.check.Lts as lts
-use Rattle.codec.proofs.count_in.Reads as count-in-reads
-use Rattle.codec.proofs.fits.Reads as fits-reads
-use Rattle.codec.proofs.same.Reads as same-reads
-use Rattle.entries.proofs.both.Reads as both-reads
 
 fitting : (c : tie.Else1) → fitsOf (length (now (c .before .before .before .args .image))) ≡ true
 fitting c = sym (c .before .fits2 .ensures) ∙ not-false _ (c .if1 .left)
@@ -27,73 +21,57 @@ ends c = fits-ends (length (now (c .before .before .before .args .image))) (fitt
 marks : (c : tie.After-both) → c .both .result ≡ marked (now (c .before .before .before .before .before .before .before .before .before .before .args .image))
 marks c = simp (c .both .ensures, c .before .same2 .ensures, c .before .before .before .before .same .ensures)
 
--- src/lib.rt:188:9
 fits-requires : tie.Need-fits-requires
 fits-requires c κs = search needs
 
--- src/lib.rt:189:9
 returns : tie.Need-returns
 unfolding checkOf
 returns c =
     let short : fitsOf (length (now (c .before .before .before .args .image))) ≡ false = sym (c .before .fits2 .ensures) ∙ not-true _ (c .if1 .taken) in
     simp (short, rule-broken, refused-stays)
 
--- src/lib.rt:193:19
 slice-aggregate-same : tie.Need-slice-aggregate-same
 slice-aggregate-same c = let h = ends (c .before) in simp length-take (omega arith)
 
--- src/lib.rt:193:32
 slice-aggregate-same-2 : tie.Need-slice-aggregate-same-2
 slice-aggregate-same-2 c = search needs
 
--- src/lib.rt:193:14
 same-requires : tie.Need-same-requires
 same-requires c κs = search needs
 
--- src/lib.rt:193:45
 sub-same : tie.Need-sub-same
 sub-same c = search needs
 
--- src/lib.rt:193:45
 part-same-start : tie.Need-part-same-start
 part-same-start c = search needs
 
--- src/lib.rt:193:45
 part-same-end : tie.Need-part-same-end
 part-same-end c = let h = ends (c .before .before .before) in omega arith
 
--- src/lib.rt:193:60
 slice-aggregate-same-3 : tie.Need-slice-aggregate-same-3
 slice-aggregate-same-3 c = search needs
 
--- src/lib.rt:193:40
 same-requires-2 : tie.Need-same-requires-2
 same-requires-2 c κs = search needs
 
--- src/lib.rt:193:9
 both-requires : tie.Need-both-requires
 both-requires c κs = search needs
 
--- src/lib.rt:194:9
 returns-2 : tie.Need-returns-2
 unfolding checkOf
 returns-2 c =
     let wrong : marked (now (c .before .before .before .before .before .before .before .before .before .before .before .args .image)) ≡ false = sym (marks (c .before)) ∙ not-true _ (c .if2 .taken) in
     simp (fitting (c .before .before .before .before .before .before .before .before), wrong, rule-kept, rule-broken, refused-stays)
 
--- src/lib.rt:196:8
 count-in-requires : tie.Need-count-in-requires
 count-in-requires c κs = search needs
 
--- src/lib.rt:196:8
 cast-if3 : tie.Need-cast-if3
 cast-if3 c = search needs
 
--- src/lib.rt:196:36
 sub-if3 : tie.Need-sub-if3
 sub-if3 c = let h = ends (c .before .before .before .before .before .before .before .before .before) in omega arith
 
--- src/lib.rt:197:9
 returns-3 : tie.Need-returns-3
 unfolding checkOf
 returns-3 c =
@@ -101,7 +79,6 @@ returns-3 c =
     let other : eqb (countIn (now (c .before .before .before .before .before .before .before .before .before .before .before .before .before .args .image))) (length (now (c .before .before .before .before .before .before .before .before .before .before .before .before .before .args .image)) / 24 - 1) ≡ false = ne-eqb _ _ (λ e. c .if3 .taken (c .before .count-in .ensures ∙ e)) in
     simp (fitting (c .before .before .before .before .before .before .before .before .before .before), right, other, rule-kept, rule-broken)
 
--- src/lib.rt:184:1
 returns-4 : tie.Need-returns-4
 unfolding checkOf
 returns-4 c =

@@ -5,90 +5,67 @@ use Rattle.codec.specs.Records.{encodeRecord}
 use borrow.Author.Needs.{needs}
 use Rattle.codec.proofs.encode.Statement.{statement}
 use Rattle.codec.proofs.encode.Tie as tie
-use Rattle.codec.proofs.encode.Reads as reads
-use Rattle.codec.proofs.encode.Lts as lts
 
--- src/lib.rt:102:9
 cast-t4 : tie.Need-cast-t4
 cast-t4 c = search needs
 
--- src/lib.rt:103:9
 cast-t7 : tie.Need-cast-t7
 cast-t7 c = search needs
 
--- src/lib.rt:104:9
 cast-t9 : tie.Need-cast-t9
 cast-t9 c = search needs
 
--- src/lib.rt:105:9
 cast-t12 : tie.Need-cast-t12
 cast-t12 c = search needs
 
--- src/lib.rt:106:9
 cast-t14 : tie.Need-cast-t14
 cast-t14 c = search needs
 
--- src/lib.rt:107:9
 cast-t17 : tie.Need-cast-t17
 cast-t17 c = search needs
 
--- src/lib.rt:108:9
 cast-t19 : tie.Need-cast-t19
 cast-t19 c = search needs
 
--- src/lib.rt:109:9
 cast-t22 : tie.Need-cast-t22
 cast-t22 c = search needs
 
--- src/lib.rt:110:9
 cast-t26 : tie.Need-cast-t26
 cast-t26 c = search needs
 
--- src/lib.rt:111:9
 cast-t31 : tie.Need-cast-t31
 cast-t31 c = search needs
 
--- src/lib.rt:112:9
 cast-t33 : tie.Need-cast-t33
 cast-t33 c = search needs
 
--- src/lib.rt:113:9
 cast-t36 : tie.Need-cast-t36
 cast-t36 c = search needs
 
--- src/lib.rt:114:9
 cast-t40 : tie.Need-cast-t40
 cast-t40 c = search needs
 
--- src/lib.rt:115:9
 cast-t45 : tie.Need-cast-t45
 cast-t45 c = search needs
 
--- src/lib.rt:116:9
 cast-t47 : tie.Need-cast-t47
 cast-t47 c = search needs
 
--- src/lib.rt:117:9
 cast-t50 : tie.Need-cast-t50
 cast-t50 c = search needs
 
--- src/lib.rt:118:9
 cast-t54 : tie.Need-cast-t54
 cast-t54 c = search needs
 
--- src/lib.rt:119:9
 cast-t59 : tie.Need-cast-t59
 cast-t59 c = search needs
 
--- src/lib.rt:120:9
 cast-t61 : tie.Need-cast-t61
 cast-t61 c = search needs
 
--- src/lib.rt:121:9
 cast-t64 : tie.Need-cast-t64
 cast-t64 c = search needs
 
--- src/lib.rt:96:1
 returns : tie.Need-returns
 unfolding encodeRecord
 returns c =

@@ -4,57 +4,40 @@ use Rattle.codec.proofs.Records.{decode-at}
 use borrow.Author.Needs.{needs}
 use Rattle.codec.proofs.record_in.Statement.{statement}
 use Rattle.codec.proofs.record_in.Tie as tie
-use Rattle.codec.proofs.record_in.Reads as reads
-use Rattle.codec.proofs.record_in.Lts as lts
-use Rattle.codec.proofs.u16_in.Reads as u16-in-reads
-use Rattle.codec.proofs.u32_in.Reads as u32-in-reads
-use Rattle.codec.proofs.u8_in.Reads as u8-in-reads
 
--- src/lib.rt:78:15
 u8-in-requires : tie.Need-u8-in-requires
 u8-in-requires c κs = search needs
 
--- src/lib.rt:79:15
 u8-in-requires-2 : tie.Need-u8-in-requires-2
 u8-in-requires-2 c κs = search needs
 
--- src/lib.rt:80:18
 u16-in-requires : tie.Need-u16-in-requires
 u16-in-requires c κs = search needs
 
--- src/lib.rt:81:14
 u16-in-requires-2 : tie.Need-u16-in-requires-2
 u16-in-requires-2 c κs = search needs
 
--- src/lib.rt:82:17
 u32-in-requires : tie.Need-u32-in-requires
 u32-in-requires c κs = search needs
 
--- src/lib.rt:83:17
 u32-in-requires-2 : tie.Need-u32-in-requires-2
 u32-in-requires-2 c κs = search needs
 
--- src/lib.rt:84:23
 u32-in-requires-3 : tie.Need-u32-in-requires-3
 u32-in-requires-3 c κs = search needs
 
--- src/lib.rt:85:12
 u16-in-requires-3 : tie.Need-u16-in-requires-3
 u16-in-requires-3 c κs = search needs
 
--- src/lib.rt:86:12
 u8-in-requires-3 : tie.Need-u8-in-requires-3
 u8-in-requires-3 c κs = search needs
 
--- src/lib.rt:87:21
 u8-in-requires-4 : tie.Need-u8-in-requires-4
 u8-in-requires-4 c κs = search needs
 
--- src/lib.rt:91:15
 u16-in-requires-4 : tie.Need-u16-in-requires-4
 u16-in-requires-4 c κs = search needs
 
--- src/lib.rt:74:1
 returns : tie.Need-returns
 returns c = rw (decode-at (now (c .before .before .before .before .before .before .before .before .before .before .before .before .args .image)) (24 * c .before .before .before .before .before .before .before .before .before .before .before .before .args .number)) (simp (c .u16-in4 .ensures, c .before .u8-in4 .ensures, c .before .before .u8-in3 .ensures, c .before .before .before .u16-in3 .ensures, c .before .before .before .before .u32-in3 .ensures, c .before .before .before .before .before .u32-in2 .ensures, c .before .before .before .before .before .before .u32-in .ensures, c .before .before .before .before .before .before .before .u16-in2 .ensures, c .before .before .before .before .before .before .before .before .u16-in .ensures, c .before .before .before .before .before .before .before .before .before .u8-in2 .ensures, c .before .before .before .before .before .before .before .before .before .before .u8-in .ensures))
 

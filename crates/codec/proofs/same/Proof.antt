@@ -8,8 +8,6 @@ use Rattle.codec.specs.Bytes.{eqList}
 use Rattle.codec.proofs.Bytes.{eqList-step, eqList-stop, eqList-length}
 use Rattle.codec.proofs.same.Statement.{statement}
 use Rattle.codec.proofs.same.Tie as tie
-use Rattle.codec.proofs.same.Reads as reads
-use Rattle.codec.proofs.same.Lts as lts
 
 abbrev Inv-loop : tie.InvT-loop
 Inv-loop a b i₀ i = (i ≤ length a) × (length a ≡ length b) × (eqList a b ≡ eqList (drop i a) (drop i b))
@@ -17,43 +15,34 @@ Inv-loop a b i₀ i = (i ≤ length a) × (length a ≡ length b) × (eqList a b
 abbrev μ-loop : tie.MeasureT-loop
 μ-loop a b i₀ i = length a - i
 
--- src/lib.rt:164:9
 returns : tie.Need-returns Inv-loop μ-loop
 returns c = sym (eqList-length (now (c .before .args .a)) (now (c .before .args .b)) (c .if1 .taken))
 
--- src/lib.rt:167:5
 loop-holds : tie.Need-loop-holds Inv-loop μ-loop
 loop-holds c = search needs
 
--- src/lib.rt:168:12
 shared-slice-read-if2 : tie.Need-shared-slice-read-if2 Inv-loop μ-loop
 shared-slice-read-if2 c = search needs
 
--- src/lib.rt:168:20
 shared-slice-read-if2-2 : tie.Need-shared-slice-read-if2-2 Inv-loop μ-loop
 shared-slice-read-if2-2 c = search needs
 
--- src/lib.rt:169:13
 returns-2 : tie.Need-returns-2 Inv-loop μ-loop
 returns-2 c =
     let l = c .before .before .before .before .loop in
     sym (l .inv .2 ∙ eqList-stop (now (c .before .before .before .before .before .before .args .a)) (now (c .before .before .before .before .before .before .args .b)) (l .i) (omega arith) (omega arith) (c .if2 .taken))
 
--- src/lib.rt:171:9
 add-i : tie.Need-add-i Inv-loop μ-loop
 add-i c = search needs
 
--- src/lib.rt:167:5
 loop-less : tie.Need-loop-less Inv-loop μ-loop
 loop-less c = search needs
 
--- src/lib.rt:167:5
 loop-again : tie.Need-loop-again Inv-loop μ-loop
 loop-again c =
     let l = c .before .before .before .before .loop in
     (omega arith, omega arith, l .inv .2 ∙ eqList-step (now (c .before .before .before .before .before .before .args .a)) (now (c .before .before .before .before .before .before .args .b)) (l .i) (omega arith) (omega arith) (c .if2 .left))
 
--- src/lib.rt:160:1
 returns-3 : tie.Need-returns-3 Inv-loop μ-loop
 returns-3 c =
     let l = c .before .loop in

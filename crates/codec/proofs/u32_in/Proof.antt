@@ -4,68 +4,49 @@ use Rattle.codec.proofs.Bytes.{un-four}
 use borrow.Author.Needs.{needs}
 use Rattle.codec.proofs.u32_in.Statement.{statement}
 use Rattle.codec.proofs.u32_in.Tie as tie
-use Rattle.codec.proofs.u32_in.Reads as reads
-use Rattle.codec.proofs.u32_in.Lts as lts
-use Rattle.codec.proofs.place.Reads as place-reads
-use Rattle.codec.proofs.wide.Reads as wide-reads
 
--- src/lib.rt:61:9
 place-requires : tie.Need-place-requires
 place-requires c κs = search needs
 
--- src/lib.rt:62:5
 wide-requires : tie.Need-wide-requires
 wide-requires c κs = search needs
 
--- src/lib.rt:63:30
 add-wide : tie.Need-add-wide
 add-wide c = search needs
 
--- src/lib.rt:63:18
 wide-requires-2 : tie.Need-wide-requires-2
 wide-requires-2 c κs = search needs
 
--- src/lib.rt:63:59
 add-wide-2 : tie.Need-add-wide-2
 add-wide-2 c = search needs
 
--- src/lib.rt:63:47
 wide-requires-3 : tie.Need-wide-requires-3
 wide-requires-3 c κs = search needs
 
--- src/lib.rt:63:87
 add-wide-3 : tie.Need-add-wide-3
 add-wide-3 c = search needs
 
--- src/lib.rt:63:75
 wide-requires-4 : tie.Need-wide-requires-4
 wide-requires-4 c κs = search needs
 
--- src/lib.rt:63:69
 mul-result : tie.Need-mul-result
 mul-result c = search needs
 
--- src/lib.rt:63:47
 add-result : tie.Need-add-result
 add-result c = search needs
 
--- src/lib.rt:63:40
 mul-result-2 : tie.Need-mul-result-2
 mul-result-2 c = search needs
 
--- src/lib.rt:63:18
 add-result-2 : tie.Need-add-result-2
 add-result-2 c = search needs
 
--- src/lib.rt:63:11
 mul-result-3 : tie.Need-mul-result-3
 mul-result-3 c = search needs
 
--- src/lib.rt:62:5
 add-result-3 : tie.Need-add-result-3
 add-result-3 c = search needs
 
--- src/lib.rt:58:1
 returns : tie.Need-returns
 returns c = rw (← c .before .before .before .before .place .ensures) (omega (arith, un-four (now (c .before .before .before .before .before .before .args .image)) (c .before .before .before .before .place .result)))
 

@@ -1,6 +1,9 @@
 use borrow.Author.Needs.{needs}
-use Prim.Native.Nat.{_-_, _<_}
-use lib.ListN.{length}
+use Prim.Native.Nat.{_-_, _<_, _≤_}
+use native.Mathlib.Omega.{arith}
+use denote.Ref.{now}
+use lib.ListN.{length, getD}
+use borrow.Author.Tests.{not-false}
 use Rattle.tables.proofs.number.Statement.{statement}
 use Rattle.tables.proofs.number.Tie as tie
 
@@ -9,6 +12,11 @@ Inv-loop text from at₀ value₀ at value = value < 4294967296
 
 abbrev μ-loop : tie.MeasureT-loop
 μ-loop text from at₀ value₀ at value = length text - at
+
+digit : (c : tie.Else1 Inv-loop μ-loop) →
+    let byte = getD (now (c .before .before .before .before .before .before .args .text)) (c .before .before .before .before .loop .at) 0 in
+    (48 ≤ byte) × (byte ≤ 57)
+digit c = c .before .is-digit .ensures (not-false _ (c .if1 .left))
 
 loop-holds : tie.Need-loop-holds Inv-loop μ-loop
 loop-holds c = search needs
@@ -25,14 +33,17 @@ cast-t12 c = search needs
 returns : tie.Need-returns Inv-loop μ-loop
 returns c = search needs
 
+sub-value : tie.Need-sub-value Inv-loop μ-loop
+sub-value c = digit c .0
+
 mul-value : tie.Need-mul-value Inv-loop μ-loop
 mul-value c = search needs
 
 cast-value : tie.Need-cast-value Inv-loop μ-loop
-cast-value c = search needs
+cast-value c = let d = digit c in omega arith
 
 add-value : tie.Need-add-value Inv-loop μ-loop
-add-value c = search needs
+add-value c = let d = digit c in omega arith
 
 add-at : tie.Need-add-at Inv-loop μ-loop
 add-at c = search needs
@@ -61,6 +72,7 @@ number-spec =
     cast-t12
     returns
     mul-value
+    sub-value
     cast-value
     add-value
     add-at

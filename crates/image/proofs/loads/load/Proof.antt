@@ -15,15 +15,6 @@ use Rattle.image.specs.Loads.{loadedReply, verdictOf, stopOf, loadOf}
 use Rattle.image.proofs.Loading.{refusal-above, checkNumber, verdict-stop, restOf, rest-step, rest-stop, rest-end, load-refused, load-starts}
 use Rattle.image.proofs.loads.load.Statement.{statement}
 use Rattle.image.proofs.loads.load.Tie as tie
-use Rattle.image.proofs.loads.load.Reads as reads
-use Rattle.image.proofs.loads.load.Lts as lts
-use Rattle.book.proofs.Book.fresh.Reads as fresh-reads
-use Rattle.book.proofs.Book.post.Reads as post-reads
-use Rattle.book.proofs.slot.Reads as slot-reads
-use Rattle.codec.proofs.check.Reads as check-reads
-use Rattle.codec.proofs.count_in.Reads as count-in-reads
-use Rattle.codec.proofs.record_in.Reads as record-in-reads
-use Rattle.image.proofs.loads.verdict.Reads as verdict-reads
 
 abbrev Inv-loop : tie.InvT-loop
 Inv-loop image count book₀ i₀ book i = (i ≤ count) × (loadOf image ≡ restOf image count book i)
@@ -45,19 +36,15 @@ stopped c =
     verdict-stop (c .before .post .result .answer) b r (ap (λ x. x .reply) (c .before .post .ensures)) ∙
     ap (stopOf b) (c .before .before .before .before .before .record-in .ensures)
 
--- src/loads.rt:41:38
 check-requires : tie.Need-check-requires Inv-loop μ-loop
 check-requires c κs = search needs
 
--- src/loads.rt:41:27
 enum-known-refusal : tie.Need-enum-known-refusal Inv-loop μ-loop
 enum-known-refusal c = search needs
 
--- src/loads.rt:43:19
 fresh-requires : tie.Need-fresh-requires Inv-loop μ-loop
 fresh-requires c κs = search needs
 
--- src/loads.rt:42:9
 returns : tie.Need-returns Inv-loop μ-loop
 unfolding loadedReply
 returns c = rw (load-refused (now (c .before .before .before .before .before .before .args .image)) (c .before .before .refusal .given .0 .0) (sym (c .before .before .before .before .check .ensures) ∙ c .before .before .refusal .given .1), c .fresh .ensures) refl
@@ -65,55 +52,42 @@ returns c = rw (load-refused (now (c .before .before .before .before .before .be
 enum-told : tie.Need-enum-told Inv-loop μ-loop
 enum-told c = search needs
 
--- src/loads.rt:47:9
 count-in-requires : tie.Need-count-in-requires Inv-loop μ-loop
 count-in-requires c κs = search needs
 
--- src/loads.rt:48:20
 fresh-requires-2 : tie.Need-fresh-requires-2 Inv-loop μ-loop
 fresh-requires-2 c κs = search needs
 
--- src/loads.rt:50:5
 loop-holds : tie.Need-loop-holds Inv-loop μ-loop
 loop-holds c = (omega arith, rw (c .before .count-in .ensures, c .fresh2 .ensures) (load-starts (now (c .before .before .before .before .before .before .args .image)) (passes (c .before .before))))
 
--- src/loads.rt:51:22
 add-number : tie.Need-add-number Inv-loop μ-loop
 add-number c = search needs
 
--- src/loads.rt:52:13
 record-in-requires : tie.Need-record-in-requires Inv-loop μ-loop
 record-in-requires c κs = search needs
 
--- src/loads.rt:54:13
 slot-requires : tie.Need-slot-requires Inv-loop μ-loop
 slot-requires c κs = search needs
 
--- src/loads.rt:55:23
 mul-account : tie.Need-mul-account Inv-loop μ-loop
 mul-account c = omega (arith, slot-inside (c .before .before .record-in .result .raw .account), c .slot .ensures)
 
--- src/loads.rt:55:23
 element-copy-out-account : tie.Need-element-copy-out-account Inv-loop μ-loop
 element-copy-out-account c = rw (c .slot .ensures) (slot-inside _)
 
--- src/loads.rt:56:13
 post-requires : tie.Need-post-requires Inv-loop μ-loop
 post-requires c κs = search needs
 
--- src/loads.rt:58:42
 verdict-requires : tie.Need-verdict-requires Inv-loop μ-loop
 verdict-requires c κs = search needs
 
--- src/loads.rt:58:31
 enum-known-refusal-2 : tie.Need-enum-known-refusal-2 Inv-loop μ-loop
 enum-known-refusal-2 c = search needs
 
--- src/loads.rt:60:23
 fresh-requires-3 : tie.Need-fresh-requires-3 Inv-loop μ-loop
 fresh-requires-3 c κs = search needs
 
--- src/loads.rt:59:13
 returns-2 : tie.Need-returns-2 Inv-loop μ-loop
 unfolding loadedReply checkNumber
 returns-2 c =
@@ -125,11 +99,9 @@ returns-2 c =
 enum-told-2 : tie.Need-enum-told-2 Inv-loop μ-loop
 enum-told-2 c = search needs
 
--- src/loads.rt:50:5
 loop-less : tie.Need-loop-less Inv-loop μ-loop
 loop-less c = search needs
 
--- src/loads.rt:50:5
 loop-again : tie.Need-loop-again Inv-loop μ-loop
 unfolding checkNumber
 loop-again c =
@@ -138,7 +110,6 @@ loop-again c =
     let next : c .before .before .before .before .post .result .book ≡ postOf (l .book) (recordIn (now (c .before .before .before .before .before .before .before .before .before .before .before .before .before .before .before .before .before .args .image)) (l .i + 1) .raw) .book = ap (λ x. x .book) (c .before .before .before .before .post .ensures) ∙ ap (λ x. postOf (l .book) (x .raw) .book) (c .before .before .before .before .before .before .before .before .record-in .ensures) in
     (omega arith, l .inv .1 ∙ rest-step (now (c .before .before .before .before .before .before .before .before .before .before .before .before .before .before .before .before .before .args .image)) (c .before .before .before .before .before .before .before .before .before .before .before .before .count-in .result) (l .book) (c .before .before .before .before .post .result .book) (l .i) (omega arith) stop next)
 
--- src/loads.rt:38:1
 returns-3 : tie.Need-returns-3 Inv-loop μ-loop
 unfolding loadedReply
 returns-3 c =

@@ -11,49 +11,35 @@ use Rattle.image.proofs.Again.{Done, done, reload-done, reload-refused}
 use borrow.Author.Needs.{needs}
 use Rattle.image.proofs.rounds.reload.Statement.{statement}
 use Rattle.image.proofs.rounds.reload.Tie as tie
-use Rattle.image.proofs.rounds.reload.Reads as reads
-use Rattle.image.proofs.rounds.reload.Lts as lts
-use Rattle.book.proofs.Book.fresh.Reads as fresh-reads
-use Rattle.image.proofs.loads.load.Reads as load-reads
-use Rattle.image.proofs.saves.save.Reads as save-reads
 
 told : (c : tie.After-n) → Done (c .before .before .before .before .before .before .before .args .book) (now (c .before .before .before .before .before .before .before .args .buf)) (c .n .given .0 .0)
 unfolding savedReply
 told c = done (c .before .before .before .before .before .before .before .args .book) (now (c .before .before .before .before .before .before .before .args .buf)) (c .n .given .0 .0) (sym (ap savedReply (c .n .given .1)) ∙ c .before .before .before .before .save .ensures .0)
 
--- src/rounds.rt:17:11
 save-requires : tie.Need-save-requires
 save-requires c κs = search needs
 
--- src/rounds.rt:18:23
 enum-known-n : tie.Need-enum-known-n
 enum-known-n c = search needs
 
--- src/rounds.rt:18:34
 slice-reshare-prefix-load : tie.Need-slice-reshare-prefix-load
 slice-reshare-prefix-load c = omega (arith, told (c .before) .room)
 
--- src/rounds.rt:18:34
 slice-aggregate-load : tie.Need-slice-aggregate-load
 slice-aggregate-load c = simp length-take (omega (arith, told (c .before .before) .room))
 
--- src/rounds.rt:18:29
 load-requires : tie.Need-load-requires
 load-requires c κs = search needs
 
--- src/rounds.rt:19:24
 enum-known-refusal : tie.Need-enum-known-refusal
 enum-known-refusal c = search needs
 
--- src/rounds.rt:20:19
 fresh-requires : tie.Need-fresh-requires
 fresh-requires c κs = search needs
 
--- src/rounds.rt:14:1
 same-length : tie.Need-same-length
 same-length c = search needs
 
--- src/rounds.rt:14:1
 returns : tie.Need-returns
 unfolding savedReply
 returns c =
@@ -62,11 +48,9 @@ returns c =
     let full = simp length-map at (start .good .0 .1 .1 .1 .0 .1 .0 .1) in
     reload-done b (now (start .args .buf)) _ (c .before .before .before .n .given .0 .0) _ full (ranges (sizeOf b) (b .entries) (start .good .0 .1 .1 .1 .0 .0) (start .good .0 .1 .1 .1 .0 .1 .1)) (sym (ap savedReply (c .before .before .before .n .given .1)) ∙ c .before .before .before .before .before .before .before .save .ensures .0) (c .before .before .before .before .before .before .before .save .ensures .1) (c .load .ensures)
 
--- src/rounds.rt:14:1
 same-length-2 : tie.Need-same-length-2
 same-length-2 c = search needs
 
--- src/rounds.rt:14:1
 returns-2 : tie.Need-returns-2
 unfolding savedReply loadedReply
 returns-2 c =

@@ -10,32 +10,22 @@ use Rattle.image.proofs.Again.{resave-done, resave-refused}
 use borrow.Author.Needs.{needs}
 use Rattle.image.proofs.rounds.resave.Statement.{statement}
 use Rattle.image.proofs.rounds.resave.Tie as tie
-use Rattle.image.proofs.rounds.resave.Reads as reads
-use Rattle.image.proofs.rounds.resave.Lts as lts
-use Rattle.image.proofs.loads.load.Reads as load-reads
-use Rattle.image.proofs.saves.save.Reads as save-reads
 
--- src/rounds.rt:30:9
 load-requires : tie.Need-load-requires
 load-requires c κs = search needs
 
--- src/rounds.rt:34:17
 enum-told : tie.Need-enum-told
 enum-told c = search needs
 
--- src/rounds.rt:35:13
 save-requires : tie.Need-save-requires
 save-requires c κs = search needs
 
--- src/rounds.rt:37:31
 enum-known-answer : tie.Need-enum-known-answer
 enum-known-answer c = search needs
 
--- src/rounds.rt:27:1
 same-length : tie.Need-same-length
 same-length c = search needs
 
--- src/rounds.rt:27:1
 returns : tie.Need-returns
 unfolding loadedReply
 returns c =
@@ -43,7 +33,6 @@ returns c =
     let p = resave-done (now (a .image)) (now (a .buf)) (c .before .before .before .before .before .before .before .load .result .book) (bytes-of (now (a .image)) (λ i. omega (arith, c .before .before .before .before .before .before .before .before .before .shared-slice-known .given i))) (sym (c .before .before .before .before .before .before .before .load .ensures) ∙ ap (answeredOf (c .before .before .before .before .before .before .before .load .result .book)) (c .before .before .before .before .before .enum-told .given .1)) in
     (c .before .before .save .ensures .0 ∙ p .0, c .before .before .save .ensures .1 ∙ p .1)
 
--- src/rounds.rt:27:1
 returns-2 : tie.Need-returns-2
 unfolding loadedReply savedReply
 returns-2 c =

@@ -7,8 +7,6 @@ use lib.ListN.{length, length-set}
 use lib.Seq.{paste, paste-zero, paste-suc, take-length}
 use Rattle.image.proofs.saves.put.Statement.{statement}
 use Rattle.image.proofs.saves.put.Tie as tie
-use Rattle.image.proofs.saves.put.Reads as reads
-use Rattle.image.proofs.saves.put.Lts as lts
 
 abbrev Inv-loop : tie.InvT-loop
 Inv-loop buf₀ at bytes i₀ buf i = (i ≤ length bytes) × (length buf ≡ length buf₀) × (buf ≡ paste buf₀ at bytes i)
@@ -16,42 +14,33 @@ Inv-loop buf₀ at bytes i₀ buf i = (i ≤ length bytes) × (length buf ≡ le
 abbrev μ-loop : tie.MeasureT-loop
 μ-loop buf₀ at bytes i₀ buf i = length bytes - i
 
--- src/saves.rt:141:5
 loop-holds : tie.Need-loop-holds Inv-loop μ-loop
 loop-holds c = (omega arith, refl, paste-zero (now (c .args .buf)) (c .args .at) (now (c .args .bytes)))
 
--- src/saves.rt:142:23
 shared-slice-read-buf : tie.Need-shared-slice-read-buf Inv-loop μ-loop
 shared-slice-read-buf c = omega arith
 
--- src/saves.rt:142:13
 add-buf : tie.Need-add-buf Inv-loop μ-loop
 add-buf c = omega arith
 
--- src/saves.rt:142:9
 slice-write-buf : tie.Need-slice-write-buf Inv-loop μ-loop
 slice-write-buf c = omega arith
 
--- src/saves.rt:143:9
 add-i : tie.Need-add-i Inv-loop μ-loop
 add-i c = omega arith
 
--- src/saves.rt:141:5
 loop-less : tie.Need-loop-less Inv-loop μ-loop
 loop-less c = omega arith
 
--- src/saves.rt:141:5
 loop-again : tie.Need-loop-again Inv-loop μ-loop
 loop-again c =
     let a = c .before .before .before .args in
     let l = c .before .before .loop in
     (omega arith, simp length-set (omega arith), rw (l .inv .2, add-one (l .i)) (paste-suc (now (a .buf)) (a .at) (now (a .bytes)) (l .i) 0 (omega arith) (omega arith)))
 
--- src/saves.rt:136:1
 same-length : tie.Need-same-length Inv-loop μ-loop
 same-length c = omega arith
 
--- src/saves.rt:136:1
 returns : tie.Need-returns Inv-loop μ-loop
 returns c =
     let a = c .before .before .args in

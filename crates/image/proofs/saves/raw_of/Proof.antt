@@ -2,125 +2,93 @@ use Rattle.image.specs.Raws.{rawOf}
 use borrow.Author.Needs.{needs}
 use Rattle.image.proofs.saves.raw_of.Statement.{statement}
 use Rattle.image.proofs.saves.raw_of.Tie as tie
-use Rattle.image.proofs.saves.raw_of.Reads as reads
-use Rattle.image.proofs.saves.raw_of.Lts as lts
-use Rattle.image.proofs.saves.customer.Reads as customer-reads
-use Rattle.image.proofs.saves.naming.Reads as naming-reads
-use Rattle.image.proofs.saves.raw_from.Reads as raw-from-reads
 
--- src/saves.rt:84:34
 enum-told : tie.Need-enum-told
 enum-told c = search needs
 
--- src/saves.rt:84:25
 raw-from-requires : tie.Need-raw-from-requires
 raw-from-requires c κs = search needs
 
--- src/saves.rt:86:13
 enum-known-what : tie.Need-enum-known-what
 enum-known-what c = search needs
 
--- src/saves.rt:90:14
 raw-from-requires-2 : tie.Need-raw-from-requires-2
 raw-from-requires-2 c κs = search needs
 
--- src/saves.rt:92:13
 enum-known-what-2 : tie.Need-enum-known-what-2
 enum-known-what-2 c = search needs
 
--- src/saves.rt:96:14
 customer-requires : tie.Need-customer-requires
 customer-requires c κs = search needs
 
--- src/saves.rt:98:13
 enum-known-what-3 : tie.Need-enum-known-what-3
 enum-known-what-3 c = search needs
 
--- src/saves.rt:102:14
 raw-from-requires-3 : tie.Need-raw-from-requires-3
 raw-from-requires-3 c κs = search needs
 
--- src/saves.rt:103:25
 enum-known-what-4 : tie.Need-enum-known-what-4
 enum-known-what-4 c = search needs
 
--- src/saves.rt:103:41
 raw-from-requires-4 : tie.Need-raw-from-requires-4
 raw-from-requires-4 c κs = search needs
 
--- src/saves.rt:104:25
 enum-known-what-5 : tie.Need-enum-known-what-5
 enum-known-what-5 c = search needs
 
--- src/saves.rt:104:43
 raw-from-requires-5 : tie.Need-raw-from-requires-5
 raw-from-requires-5 c κs = search needs
 
--- src/saves.rt:105:41
 enum-told-2 : tie.Need-enum-told-2
 enum-told-2 c = search needs
 
--- src/saves.rt:105:32
 raw-from-requires-6 : tie.Need-raw-from-requires-6
 raw-from-requires-6 c κs = search needs
 
--- src/saves.rt:107:13
 enum-known-what-6 : tie.Need-enum-known-what-6
 enum-known-what-6 c = search needs
 
--- src/saves.rt:109:14
 naming-requires : tie.Need-naming-requires
 naming-requires c κs = search needs
 
--- src/saves.rt:111:13
 enum-known-what-7 : tie.Need-enum-known-what-7
 enum-known-what-7 c = search needs
 
--- src/saves.rt:114:14
 naming-requires-2 : tie.Need-naming-requires-2
 naming-requires-2 c κs = search needs
 
--- src/saves.rt:79:1
 returns : tie.Need-returns
 unfolding rawOf
 returns c = rw (c .before .enum-told .given .1) (c .raw-from .ensures)
 
--- src/saves.rt:79:1
 returns-2 : tie.Need-returns-2
 unfolding rawOf
 returns-2 c = rw (c .before .before .what .given .1) (c .raw-from2 .ensures)
 
--- src/saves.rt:79:1
 returns-3 : tie.Need-returns-3
 unfolding rawOf
 returns-3 c = rw (c .before .before .what2 .given .1) (c .customer .ensures)
 
--- src/saves.rt:79:1
 returns-4 : tie.Need-returns-4
 unfolding rawOf
 returns-4 c = rw (c .before .before .what3 .given .1) (c .raw-from3 .ensures)
 
--- src/saves.rt:79:1
 returns-5 : tie.Need-returns-5
 unfolding rawOf
 returns-5 c = rw (c .before .before .what4 .given .1) (c .raw-from4 .ensures)
 
--- src/saves.rt:79:1
 returns-6 : tie.Need-returns-6
 unfolding rawOf
 returns-6 c = rw (c .before .before .what5 .given .1) (c .raw-from5 .ensures)
 
--- src/saves.rt:79:1
 returns-7 : tie.Need-returns-7
 unfolding rawOf
 returns-7 c = rw (c .before .enum-told2 .given .1) (c .raw-from6 .ensures)
 
--- src/saves.rt:79:1
 returns-8 : tie.Need-returns-8
 unfolding rawOf
 returns-8 c = rw (c .before .before .what6 .given .1) (c .naming .ensures)
 
--- src/saves.rt:79:1
 returns-9 : tie.Need-returns-9
 unfolding rawOf
 returns-9 c = rw (c .before .before .what7 .given .1) (c .naming2 .ensures)

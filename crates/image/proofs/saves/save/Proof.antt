@@ -10,13 +10,6 @@ use Rattle.image.proofs.Written.{written-nil}
 use Rattle.image.proofs.Saving.{save-step, save-refused, save-done}
 use Rattle.image.proofs.saves.save.Statement.{statement}
 use Rattle.image.proofs.saves.save.Tie as tie
-use Rattle.image.proofs.saves.save.Reads as reads
-use Rattle.image.proofs.saves.save.Lts as lts
-use Rattle.codec.proofs.encode.Reads as encode-reads
-use Rattle.codec.proofs.header.Reads as header-reads
-use Rattle.image.proofs.saves.put.Reads as put-reads
-use Rattle.image.proofs.saves.raw_of.Reads as raw-of-reads
-use Rattle.image.proofs.saves.size.Reads as size-reads
 
 abbrev Inv-loop : tie.InvT-loop
 Inv-loop buf₀ book size count total i₀ buf i = (i ≤ count) × (length buf ≡ length buf₀) × (buf ≡ written buf₀ 24 (encodeAll (recordsOf book i)))
@@ -28,84 +21,64 @@ abbrev μ-loop : tie.MeasureT-loop
 full : (c : tie.Start Inv-loop μ-loop) → length (c .args .t1 .entries) ≡ 1024
 full c = simp length-map at (c .good .0 .1 .1 .1 .0 .1 .0 .1)
 
--- src/saves.rt:158:9
 size-requires : tie.Need-size-requires Inv-loop μ-loop
 size-requires c κs = search needs
 
--- src/saves.rt:159:17
 cast-count : tie.Need-cast-count Inv-loop μ-loop
 cast-count c = search needs
 
--- src/saves.rt:160:23
 add-total : tie.Need-add-total Inv-loop μ-loop
 add-total c = search needs
 
--- src/saves.rt:160:17
 mul-total : tie.Need-mul-total Inv-loop μ-loop
 mul-total c = search needs
 
--- src/saves.rt:162:9
 returns : tie.Need-returns Inv-loop μ-loop
 unfolding savedReply
 returns c = save-refused (c .before .before .before .args .t1) (now (c .before .before .before .args .buf)) (omega arith)
 
--- src/saves.rt:164:17
 header-requires : tie.Need-header-requires Inv-loop μ-loop
 header-requires c κs = search needs
 
--- src/saves.rt:165:17
 slice-aggregate-put : tie.Need-slice-aggregate-put Inv-loop μ-loop
 slice-aggregate-put c = search needs
 
--- src/saves.rt:165:5
 put-requires : tie.Need-put-requires Inv-loop μ-loop
 put-requires c κs = search needs
 
--- src/saves.rt:167:5
 loop-holds : tie.Need-loop-holds Inv-loop μ-loop
 loop-holds c = (omega arith, refl, written-nil (c .before .before .put .last .0) 24)
 
--- src/saves.rt:168:21
 mul-entry : tie.Need-mul-entry Inv-loop μ-loop
 mul-entry c = search needs
 
--- src/saves.rt:168:21
 element-copy-out-entry : tie.Need-element-copy-out-entry Inv-loop μ-loop
 element-copy-out-entry c = search needs
 
--- src/saves.rt:169:28
 raw-of-requires : tie.Need-raw-of-requires Inv-loop μ-loop
 raw-of-requires c κs = search needs
 
--- src/saves.rt:169:21
 encode-requires : tie.Need-encode-requires Inv-loop μ-loop
 encode-requires c κs = search needs
 
--- src/saves.rt:170:24
 add-put : tie.Need-add-put Inv-loop μ-loop
 add-put c = search needs
 
--- src/saves.rt:170:18
 mul-put : tie.Need-mul-put Inv-loop μ-loop
 mul-put c = search needs
 
--- src/saves.rt:170:32
 slice-aggregate-put-2 : tie.Need-slice-aggregate-put-2 Inv-loop μ-loop
 slice-aggregate-put-2 c = search needs
 
--- src/saves.rt:170:9
 put-requires-2 : tie.Need-put-requires-2 Inv-loop μ-loop
 put-requires-2 c κs = search needs
 
--- src/saves.rt:171:9
 add-i : tie.Need-add-i Inv-loop μ-loop
 add-i c = search needs
 
--- src/saves.rt:167:5
 loop-less : tie.Need-loop-less Inv-loop μ-loop
 loop-less c = search needs
 
--- src/saves.rt:167:5
 loop-again : tie.Need-loop-again Inv-loop μ-loop
 loop-again c =
     let l = c .before .before .before .before .before .before .before .before .before .loop in
@@ -113,11 +86,9 @@ loop-again c =
     let n = full (c .before .before .before .before .before .before .before .before .before .before .before .before .before .before .before .before .before .before .before) in
     (omega arith, omega arith, rw (c .before .before .put2 .ensures, c .before .before .before .before .before .encode .ensures, c .before .before .before .before .before .before .raw-of .ensures) (save-step b (c .before .before .before .before .before .before .before .before .before .before .before .before .put .last .0) (l .buf) (l .i) _ (omega arith) (omega arith) (l .inv .2)))
 
--- src/saves.rt:155:1
 same-length : tie.Need-same-length Inv-loop μ-loop
 same-length c = search needs
 
--- src/saves.rt:155:1
 returns-2 : tie.Need-returns-2 Inv-loop μ-loop
 unfolding savedReply
 returns-2 c =

@@ -1,24 +1,15 @@
-use Prim.Native.Nat.{ℕ, _<_, _≤_, _-_}
-use mathlib.Core.Path.{_≡_, refl, sym, ap, _∙_}
+use Prim.Native.Nat.{_<_, _≤_}
+use mathlib.Core.Path.{_≡_, refl, sym, _∙_}
 use native.Mathlib.Omega.{arith}
 use borrow.Author.Needs.{needs}
 use Rattle.entries.specs.Entries.{noEntry}
 use Rattle.book.specs.Fresh.{entriesMost}
-use Rattle.book.specs.Posting.{accountAt}
 use Rattle.book.proofs.Chain.{slot-inside, link-inside}
-use Rattle.queries.specs.Chain.{chainOf, chainAt, soughtOf}
-use Rattle.queries.specs.Contribution.{figuresOf, decidedOf, contributionQueryOf}
+use Rattle.queries.specs.Chain.{chainOf, soughtOf}
+use Rattle.queries.specs.Contribution.{decidedOf, contributionQueryOf}
 use Rattle.queries.proofs.Chain.{chain-none, chain-ends, chain-link, sought-none, sought-hit, sought-miss}
 use Rattle.queries.proofs.contributions.contribution_query.Statement.{statement}
 use Rattle.queries.proofs.contributions.contribution_query.Tie as tie
-use Rattle.queries.proofs.contributions.contribution_query.Reads as reads
-use Rattle.queries.proofs.contributions.contribution_query.Lts as lts
-use Rattle.book.proofs.ends.Reads as ends-reads
-use Rattle.book.proofs.slot.Reads as slot-reads
-use Rattle.entries.proofs.data.Entry.unused.Reads as unused-reads
-use Rattle.queries.proofs.contributions.carried.Reads as carried-reads
-use Rattle.queries.proofs.contributions.check_pair.Reads as check-pair-reads
-use Rattle.queries.proofs.contributions.figures.Reads as figures-reads
 
 abbrev Inv-loop : tie.InvT-loop
 Inv-loop account node serial book a at₀ sought₀ left₀ at sought left = (0 < left → (sought ≡ noEntry) × (soughtOf node serial (chainOf (book .entries) left at) ≡ soughtOf node serial (chainOf (book .entries) entriesMost at₀))) ×
@@ -27,117 +18,91 @@ Inv-loop account node serial book a at₀ sought₀ left₀ at sought left = (0 
 abbrev μ-loop : tie.MeasureT-loop
 μ-loop account node serial book a at₀ sought₀ left₀ at sought left = left
 
--- HELPERS
 -- the link that the walk is at
 linked : (c : tie.Else1 Inv-loop μ-loop) → (0 < c .before .before .before .loop .at) × (c .before .before .before .loop .at ≤ entriesMost)
 linked c = link-inside (c .before .before .before .loop .at) (sym (c .before .ends .ensures) ∙ c .if1 .left)
 
--- END HELPERS
+check-query-requires : tie.Need-check-query-requires Inv-loop μ-loop
+check-query-requires c κs = search needs
 
--- src/contributions.rt:127:38
-check-pair-requires : tie.Need-check-pair-requires Inv-loop μ-loop
-check-pair-requires c κs = search needs
-
--- src/contributions.rt:127:27
 enum-known-refusal : tie.Need-enum-known-refusal Inv-loop μ-loop
 enum-known-refusal c = search needs
 
--- src/contributions.rt:128:9
 returns : tie.Need-returns Inv-loop μ-loop
 unfolding decidedOf contributionQueryOf
-returns c = simp (← c .before .before .before .check-pair .ensures, c .before .refusal .given .1)
+returns c = simp (← c .before .before .before .check-query .ensures, c .before .refusal .given .1)
 
 enum-told : tie.Need-enum-told Inv-loop μ-loop
 enum-told c = search needs
 
--- src/contributions.rt:130:9
 slot-requires : tie.Need-slot-requires Inv-loop μ-loop
 slot-requires c κs = search needs
 
--- src/contributions.rt:131:15
 mul-own : tie.Need-mul-own Inv-loop μ-loop
 mul-own c = omega (arith, slot-inside (c .before .before .before .before .args .account))
 
--- src/contributions.rt:131:15
 element-copy-out-own : tie.Need-element-copy-out-own Inv-loop μ-loop
 element-copy-out-own c = omega (arith, slot-inside (c .before .before .before .before .args .account))
 
--- src/contributions.rt:133:9
 unused-requires : tie.Need-unused-requires Inv-loop μ-loop
 unused-requires c κs = search needs
 
--- src/contributions.rt:135:5
 loop-holds : tie.Need-loop-holds Inv-loop μ-loop
 loop-holds c = (λ h. (c .unused .ensures, refl), λ h. absurd (omega arith))
 
--- src/contributions.rt:136:12
 ends-requires : tie.Need-ends-requires Inv-loop μ-loop
 ends-requires c κs = search needs
 
--- src/contributions.rt:135:5
 loop-less : tie.Need-loop-less Inv-loop μ-loop
 loop-less c = search needs
 
--- src/contributions.rt:135:5
 loop-again : tie.Need-loop-again Inv-loop μ-loop
 loop-again c = let so = c .before .before .before .loop .inv .0 (c .before .before .loop-test .taken) in
     let here = chain-ends (c .before .before .before .before .before .before .before .before .before .before .args .t1 .entries) (c .before .before .before .loop .at) (c .before .before .loop-test .taken) (sym (c .before .ends .ensures) ∙ c .if1 .taken) in
     (λ h. absurd (omega arith), λ h. so .0 ∙ (rw (here, sought-none) at (so .1)))
 
--- src/contributions.rt:139:21
 cast-i : tie.Need-cast-i Inv-loop μ-loop
 cast-i c = let h = linked c in omega arith
 
--- src/contributions.rt:139:21
 sub-i : tie.Need-sub-i Inv-loop μ-loop
 sub-i c = let h = linked c in omega arith
 
--- src/contributions.rt:140:25
 mul-entry : tie.Need-mul-entry Inv-loop μ-loop
 mul-entry c = let h = linked c in omega arith
 
--- src/contributions.rt:140:25
 element-copy-out-entry : tie.Need-element-copy-out-entry Inv-loop μ-loop
 element-copy-out-entry c = let h = linked c in omega arith
 
--- src/contributions.rt:141:16
-carried-requires : tie.Need-carried-requires Inv-loop μ-loop
-carried-requires c κs = search needs
+carries-requires : tie.Need-carries-requires Inv-loop μ-loop
+carries-requires c κs = search needs
 
--- src/contributions.rt:135:5
 loop-less-2 : tie.Need-loop-less-2 Inv-loop μ-loop
 loop-less-2 c = search needs
 
--- src/contributions.rt:135:5
 loop-again-2 : tie.Need-loop-again-2 Inv-loop μ-loop
 loop-again-2 c = let so = c .before .before .before .before .before .before .loop .inv .0 (c .before .before .before .before .before .loop-test .taken) in
     let here = chain-link (c .before .before .before .before .before .before .before .before .before .before .before .before .before .args .t1 .entries) (c .before .before .before .before .before .before .loop .at) (c .before .before .before .before .before .loop-test .taken) (sym (c .before .before .before .before .ends .ensures) ∙ c .before .before .before .if1 .left) in
-    (λ h. absurd (omega arith), λ h. sym (sought-hit _ _ _ _ (sym (c .before .carried .ensures) ∙ c .if2 .taken)) ∙ (rw here at (so .1)))
+    (λ h. absurd (omega arith), λ h. sym (sought-hit _ _ _ _ (sym (c .before .carries .ensures) ∙ c .if2 .taken)) ∙ (rw here at (so .1)))
 
--- src/contributions.rt:146:17
 sub-left : tie.Need-sub-left Inv-loop μ-loop
 sub-left c = search needs
 
--- src/contributions.rt:135:5
 loop-less-3 : tie.Need-loop-less-3 Inv-loop μ-loop
 loop-less-3 c = search needs
 
--- src/contributions.rt:135:5
 loop-again-3 : tie.Need-loop-again-3 Inv-loop μ-loop
 loop-again-3 c = let so = c .before .before .before .before .before .before .loop .inv .0 (c .before .before .before .before .before .loop-test .taken) in
     let here = chain-link (c .before .before .before .before .before .before .before .before .before .before .before .before .before .args .t1 .entries) (c .before .before .before .before .before .before .loop .at) (c .before .before .before .before .before .loop-test .taken) (sym (c .before .before .before .before .ends .ensures) ∙ c .before .before .before .if1 .left) in
-    let rest = sym (sought-miss _ _ _ _ (sym (c .before .carried .ensures) ∙ c .if2 .left)) ∙ (rw here at (so .1)) in
+    let rest = sym (sought-miss _ _ _ _ (sym (c .before .carries .ensures) ∙ c .if2 .left)) ∙ (rw here at (so .1)) in
     (λ h. (so .0, rest), λ h. so .0 ∙ (rw (h, chain-none, sought-none) at rest))
 
--- src/contributions.rt:151:5
 figures-requires : tie.Need-figures-requires Inv-loop μ-loop
 figures-requires c κs = search needs
 
--- src/contributions.rt:124:1
 returns-2 : tie.Need-returns-2 Inv-loop μ-loop
 unfolding decidedOf contributionQueryOf
 returns-2 c = let h : c .before .before .loop .left ≡ 0 = omega arith in
-    simp (c .figures .ensures, c .before .before .loop .inv .1 h, c .before .before .before .before .before .slot .ensures, ← c .before .before .before .before .before .before .before .before .check-pair .ensures, c .before .before .before .before .before .before .enum-told .given .1)
+    simp (c .figures .ensures, c .before .before .loop .inv .1 h, c .before .before .before .before .before .slot .ensures, ← c .before .before .before .before .before .before .before .before .check-query .ensures, c .before .before .before .before .before .before .enum-told .given .1)
 
 pub contribution-query-spec : {M : Type 1} → statement M
 contribution-query-spec =
@@ -145,7 +110,7 @@ contribution-query-spec =
     (tie.spec
     Inv-loop
     μ-loop
-    check-pair-requires
+    check-query-requires
     enum-known-refusal
     returns
     enum-told
@@ -161,7 +126,7 @@ contribution-query-spec =
     sub-i
     mul-entry
     element-copy-out-entry
-    carried-requires
+    carries-requires
     loop-less-2
     loop-again-2
     sub-left

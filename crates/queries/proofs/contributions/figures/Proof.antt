@@ -9,10 +9,7 @@ use Rattle.queries.specs.Contribution.{contributionReplyOf, notOnChain, 
 use borrow.Author.Needs.{needs}
 use Rattle.queries.proofs.contributions.figures.Statement.{statement}
 use Rattle.queries.proofs.contributions.figures.Tie as tie
-use Rattle.queries.proofs.contributions.figures.Reads as reads
-use Rattle.queries.proofs.contributions.figures.Lts as lts
 
--- HELPERS
 -- every other kind is not a contribution
 other : (d : Data) → OneOf (0 ∷ 2 ∷ 3 ∷ 4 ∷ 5 ∷ 6 ∷ 7 ∷ 8 ∷ []) (tagOf the-type d) → notOnChain ≡ figuresOf d
 unfolding figuresOf
@@ -26,18 +23,13 @@ other DepositReturn o = refl
 other (Expiry a b) o = refl
 other (Correction a b c) o = refl
 
--- END HELPERS
-
--- src/contributions.rt:101:13
 enum-known-what : tie.Need-enum-known-what
 enum-known-what c = search needs
 
--- src/contributions.rt:96:1
 returns : tie.Need-returns
 unfolding contributionReplyOf figuresOf
 returns c = rw (c .before .what .given .1) refl
 
--- src/contributions.rt:96:1
 returns-2 : tie.Need-returns-2
 returns-2 c = other _ (c .match .keys2)
 

@@ -1,10 +1,9 @@
 use borrow.Author.Needs.{needs}
-use Prim.Native.Nat.{ℕ, _<_, _≤_}
-use mathlib.Core.Path.{_≡_, refl, sym, ap, _∙_}
+use Prim.Native.Nat.{_<_, _≤_}
+use mathlib.Core.Path.{_≡_, refl, sym, _∙_}
 use native.Mathlib.Omega.{arith}
 use borrow.Author.Tests.{not-true, not-false}
 use Rattle.book.specs.Fresh.{entriesMost}
-use Rattle.book.specs.Posting.{accountAt}
 use Rattle.book.proofs.Chain.{slot-inside, link-inside}
 use Rattle.queries.specs.Chain.{chainOf, chainAt}
 use Rattle.queries.specs.Walk.{noSums}
@@ -13,14 +12,6 @@ use Rattle.queries.proofs.Walk.{sumsOver, over-none, over-one}
 use Rattle.queries.proofs.Given.{refused, given}
 use Rattle.queries.proofs.statements.statement.Statement.{statement}
 use Rattle.queries.proofs.statements.statement.Tie as tie
-use Rattle.queries.proofs.statements.statement.Reads as reads
-use Rattle.queries.proofs.statements.statement.Lts as lts
-use Rattle.book.proofs.ends.Reads as ends-reads
-use Rattle.book.proofs.slot.Reads as slot-reads
-use Rattle.entries.proofs.within.Reads as within-reads
-use Rattle.queries.proofs.statements.Sums.figures.Reads as figures-reads
-use Rattle.queries.proofs.statements.Sums.none.Reads as none-reads
-use Rattle.queries.proofs.statements.Sums.with.Reads as with-reads
 
 abbrev Inv-loop : tie.InvT-loop
 Inv-loop account allowance book a own at₀ sums₀ left₀ at sums left = sumsOver allowance sums (chainOf (book .entries) left at) ≡ sumsOver allowance noSums (chainOf (book .entries) entriesMost at₀)
@@ -28,7 +19,6 @@ Inv-loop account allowance book a own at₀ sums₀ left₀ at sums left = sumsO
 abbrev μ-loop : tie.MeasureT-loop
 μ-loop account allowance book a own at₀ sums₀ left₀ at sums left = left
 
--- HELPERS
 -- the link that the walk is at
 linked : (c : tie.Else2 Inv-loop μ-loop) → (0 < c .before .before .before .loop .at) × (c .before .before .before .loop .at ≤ entriesMost)
 linked c = link-inside (c .before .before .before .loop .at) (sym (c .before .ends .ensures) ∙ c .if2 .left)
@@ -40,91 +30,68 @@ walked c =
     let h : c .before .loop .left ≡ 0 = omega arith in
     simp (h, chain-none, over-none, c .before .before .before .before .slot .ensures) at (c .before .loop .inv)
 
--- END HELPERS
-
--- src/statements.rt:170:35
 cast-within : tie.Need-cast-within Inv-loop μ-loop
 cast-within c = search needs
 
--- src/statements.rt:170:9
 within-requires : tie.Need-within-requires Inv-loop μ-loop
 within-requires c κs = search needs
 
--- src/statements.rt:171:9
 returns : tie.Need-returns Inv-loop μ-loop
 returns c = refused _ _ _ (sym (c .before .within .ensures) ∙ not-true _ (c .if1 .taken))
 
--- src/statements.rt:173:9
 slot-requires : tie.Need-slot-requires Inv-loop μ-loop
 slot-requires c κs = search needs
 
--- src/statements.rt:174:15
 mul-own : tie.Need-mul-own Inv-loop μ-loop
 mul-own c = omega (arith, slot-inside (c .before .before .before .args .account))
 
--- src/statements.rt:174:15
 element-copy-out-own : tie.Need-element-copy-out-own Inv-loop μ-loop
 element-copy-out-own c = omega (arith, slot-inside (c .before .before .before .args .account))
 
--- src/statements.rt:176:9
 none-requires : tie.Need-none-requires Inv-loop μ-loop
 none-requires c κs = search needs
 
--- src/statements.rt:178:5
 loop-holds : tie.Need-loop-holds Inv-loop μ-loop
 loop-holds c = rw (c .none .ensures) refl
 
--- src/statements.rt:179:12
 ends-requires : tie.Need-ends-requires Inv-loop μ-loop
 ends-requires c κs = search needs
 
--- src/statements.rt:178:5
 loop-less : tie.Need-loop-less Inv-loop μ-loop
 loop-less c = search needs
 
--- src/statements.rt:178:5
 loop-again : tie.Need-loop-again Inv-loop μ-loop
 loop-again c = let here = chain-ends (c .before .before .before .before .before .before .before .before .before .args .t1 .entries) (c .before .before .before .loop .at) (c .before .before .loop-test .taken) (sym (c .before .ends .ensures) ∙ c .if2 .taken) in
     rw chain-none (rw here at (c .before .before .before .loop .inv))
 
--- src/statements.rt:182:21
 cast-i : tie.Need-cast-i Inv-loop μ-loop
 cast-i c = let h = linked c in omega arith
 
--- src/statements.rt:182:21
 sub-i : tie.Need-sub-i Inv-loop μ-loop
 sub-i c = let h = linked c in omega arith
 
--- src/statements.rt:183:25
 mul-entry : tie.Need-mul-entry Inv-loop μ-loop
 mul-entry c = let h = linked c in omega arith
 
--- src/statements.rt:183:25
 element-copy-out-entry : tie.Need-element-copy-out-entry Inv-loop μ-loop
 element-copy-out-entry c = let h = linked c in omega arith
 
--- src/statements.rt:184:13
 with-requires : tie.Need-with-requires Inv-loop μ-loop
 with-requires c κs = search needs
 
--- src/statements.rt:186:13
 sub-left : tie.Need-sub-left Inv-loop μ-loop
 sub-left c = search needs
 
--- src/statements.rt:178:5
 loop-less-2 : tie.Need-loop-less-2 Inv-loop μ-loop
 loop-less-2 c = search needs
 
--- src/statements.rt:178:5
 loop-again-2 : tie.Need-loop-again-2 Inv-loop μ-loop
 loop-again-2 c = let here = chain-link (c .before .before .before .before .before .before .before .before .before .before .before .args .t1 .entries) (c .before .before .before .before .before .loop .at) (c .before .before .before .before .loop-test .taken) (sym (c .before .before .before .ends .ensures) ∙ c .before .before .if2 .left) in
     rw (c .with .ensures) (rw (here, over-one) at (c .before .before .before .before .before .loop .inv))
 
--- src/statements.rt:189:28
 figures-requires : tie.Need-figures-requires Inv-loop μ-loop
 figures-requires c κs = search needs
 
--- src/statements.rt:167:1
 returns-2 : tie.Need-returns-2 Inv-loop μ-loop
 returns-2 c = rw (c .figures .ensures, c .before .before .before .before .before .slot .ensures)
     (given (c .before .before .before .before .before .before .before .before .args .t1) (c .before .before .before .before .before .before .before .before .args .account) (c .before .before .before .before .before .before .before .before .args .allowance) _ (sym (c .before .before .before .before .before .before .before .within .ensures) ∙ not-false _ (c .before .before .before .before .before .before .if1 .left)) (walked (c .before)))

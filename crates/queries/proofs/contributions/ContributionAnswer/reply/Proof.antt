@@ -3,28 +3,20 @@ use Rattle.queries.specs.Contribution.{contributionReplyOf}
 use borrow.Author.Needs.{needs}
 use Rattle.queries.proofs.contributions.ContributionAnswer.reply.Statement.{statement}
 use Rattle.queries.proofs.contributions.ContributionAnswer.reply.Tie as tie
-use Rattle.queries.proofs.contributions.ContributionAnswer.reply.Reads as reads
-use Rattle.queries.proofs.contributions.ContributionAnswer.reply.Lts as lts
-use Rattle.entries.proofs.refusals.Refusal.number.Reads as number-reads
 
--- src/contributions.rt:52:41
 enum-known-self : tie.Need-enum-known-self
 enum-known-self c = search needs
 
--- src/contributions.rt:53:26
 number-requires : tie.Need-number-requires
 number-requires c κs = search needs
 
--- src/contributions.rt:62:39
 enum-known-self-2 : tie.Need-enum-known-self-2
 enum-known-self-2 c = search needs
 
--- src/contributions.rt:48:5
 returns : tie.Need-returns
 unfolding contributionReplyOf
 returns c = rw (c .before .before .self .given .1) (simp (c .number .ensures))
 
--- src/contributions.rt:48:5
 returns-2 : tie.Need-returns-2
 unfolding contributionReplyOf
 returns-2 c = rw (c .before .self2 .given .1) refl

@@ -3,28 +3,20 @@ use Rattle.queries.specs.Statement.{statementReplyOf}
 use borrow.Author.Needs.{needs}
 use Rattle.queries.proofs.statements.StatementAnswer.reply.Statement.{statement}
 use Rattle.queries.proofs.statements.StatementAnswer.reply.Tie as tie
-use Rattle.queries.proofs.statements.StatementAnswer.reply.Reads as reads
-use Rattle.queries.proofs.statements.StatementAnswer.reply.Lts as lts
-use Rattle.entries.proofs.refusals.Refusal.number.Reads as number-reads
 
--- src/statements.rt:54:38
 enum-known-self : tie.Need-enum-known-self
 enum-known-self c = search needs
 
--- src/statements.rt:55:26
 number-requires : tie.Need-number-requires
 number-requires c κs = search needs
 
--- src/statements.rt:65:36
 enum-known-self-2 : tie.Need-enum-known-self-2
 enum-known-self-2 c = search needs
 
--- src/statements.rt:50:5
 returns : tie.Need-returns
 unfolding statementReplyOf
 returns c = rw (c .before .before .self .given .1) (simp (c .number .ensures))
 
--- src/statements.rt:50:5
 returns-2 : tie.Need-returns-2
 unfolding statementReplyOf
 returns-2 c = rw (c .before .self2 .given .1) refl

@@ -2,14 +2,10 @@ use Rattle.queries.specs.Walk.{figuresOf}
 use borrow.Author.Needs.{needs}
 use Rattle.queries.proofs.statements.Sums.figures.Statement.{statement}
 use Rattle.queries.proofs.statements.Sums.figures.Tie as tie
-use Rattle.queries.proofs.statements.Sums.figures.Reads as reads
-use Rattle.queries.proofs.statements.Sums.figures.Lts as lts
 
--- src/statements.rt:152:24
 cast-complete : tie.Need-cast-complete
 cast-complete c = search needs
 
--- src/statements.rt:144:5
 returns : tie.Need-returns
 unfolding figuresOf
 returns c = search needs
