@@ -21,7 +21,7 @@ use Rattle.book.specs.Posting.{lookupOf, namedAt}
 use Rattle.book.specs.declared.Book.{Book}
 use Rattle.book.proofs.Chain.{findIn-none, findIn-ends, findIn-hit, findIn-miss}
 use Rattle.queries.specs.Chain.{chainOf}
-use Rattle.history.specs.History.{History, accounts, entries, is, within, lastSerial, naming, points, Sought, missing, found, find, named, Fate, posted, fate, noRaw, entryIn, fateIn}
+use Rattle.history.specs.History.{History, accounts, entries, is, within, lastSerial, naming, points, Sought, missing, found, find, named, Fate, posted, fate, asking, entryIn, fateIn}
 use Rattle.history.specs.Agreement.{newestOf, keptData, keptEntry, keptChain, Rows, start, more, Agrees}
 use Rattle.history.proofs.Accept.{and-left, and-right}
 use Rattle.history.proofs.Tables.{Seen}
@@ -158,7 +158,7 @@ pub record Alike (e : Entry) (x : Raw) (f : Fate) : Type 0 where
   pub on : e .day .0 ≡ x .day
   pub seen : Seen (namedOf (e .«data»)) (kindOf (x .kind)) x f
 
-alike-none : Alike noEntry noRaw (posted noRaw)
+alike-none : Alike noEntry (asking 0 0 0) (posted (asking 0 0 0))
 unfolding namedOf
 alike-none =
     record {

@@ -78,6 +78,6 @@ call-trips =
           let records = map rawIn (recordsIn l) in
           let typed = decoded-typed (countIn l) (drop 24 l) (simp length-drop (omega (arith, c .sized))) (bytes-drop 24 l h) in
           let same : bookAfter (loadOf l .book) cs ≡ postedAll freshBook (records ++ offered cs) =
-            all-calls (loadOf l .book) cs ∙ ap (λ (x : Book). postedAll x (offered cs)) (trips .loaded-posted l e) ∙ posted-append freshBook records (offered cs) in
+          all-calls (loadOf l .book) cs ∙ ap (λ (x : Book). postedAll x (offered cs)) (trips .loaded-posted l e) ∙ posted-append freshBook records (offered cs) in
           rw same (trips .saved-loads (records ++ offered cs) (typed-append records (offered cs) typed t));
     }

@@ -7,7 +7,7 @@ use lib.ListN.{length}
 use Rattle.entries.specs.Kinds.{kindOf}
 use Rattle.entries.specs.declared.raw.Raw.{Raw}
 use Rattle.entries.specs.declared.kinds.Kind.the-variants as kind
-use Rattle.history.specs.History.{History, Amounts, entries, period, points, fate, balance, judge, offers, total, contributed, deposited, standingBill, standingPayment, heldOf, addedUp, toArrears, refundsPaid}
+use Rattle.history.specs.History.{History, Amounts, entries, period, points, fate, balance, judge, offers, total, amountOf, standingAmount, heldOf, addedUp, toArrears, refundsPaid}
 
 -- the histories that offers give: no refusal stopped any entry, read against those before it
 pub data Valid : History → Type 0 where
@@ -23,9 +23,10 @@ pub data In (e : Raw) : History → Type 0 where
 -- bills, paid out, retained, contributions held, deposit held and credit together.
 abbrev pub Conserved : History → ℕ → Type 0
 Conserved h a =
-    total contributed h h a + total standingPayment h h a + total deposited h h a + addedUp (λ (x : Amounts). x .interest) h a +
+    total (amountOf kind.Contribution) h h a + total (standingAmount kind.Payment) h h a + total (amountOf kind.Deposit) h h a +
+    addedUp (λ (x : Amounts). x .interest) h a +
     balance h a .arrears
-    ≡ total standingBill h h a + addedUp (λ (x : Amounts). x .paidOut) h a + addedUp (λ (x : Amounts). x .retained) h a +
+    ≡ total (standingAmount kind.Bill) h h a + addedUp (λ (x : Amounts). x .paidOut) h a + addedUp (λ (x : Amounts). x .retained) h a +
     total heldOf h h a +
     balance h a .deposit +
     balance h a .credit

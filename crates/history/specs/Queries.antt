@@ -9,7 +9,7 @@ use Rattle.entries.specs.declared.raw.Raw.{Raw}
 use Rattle.entries.specs.declared.kinds.Kind.the-variants as kind
 use Rattle.queries.specs.declared.statements.StatementReply.{StatementReply}
 use Rattle.queries.specs.declared.contributions.ContributionReply.{ContributionReply}
-use Rattle.history.specs.History.{History, accounts, is, within, find, fate, entryIn, balance, _⇒_, firstOf, total, standingBill, standingPayment, heldOf, toArrears, refundsPaid}
+use Rattle.history.specs.History.{History, accounts, is, within, asking, find, fate, entryIn, balance, _⇒_, firstOf, total, standingAmount, heldOf, toArrears, refundsPaid}
 
 -- an account's entries, newest first
 unfoldable pub entriesOf : History → ℕ → History
@@ -20,17 +20,18 @@ entriesOf (r ∷ h) account = cond (eqb (r .account) account) (r ∷ entriesOf h
 -- it refuses only by 3; links read is the smaller of the allowance and the number of entries
 abbrev pub statementBy : ℕ → History → ℕ → ℕ → StatementReply
 statementBy zero h account allowance =
+    let b = balance h account in
     let es = entriesOf h account in
     record {
       refusal = 0;
-      arrears = balance h account .arrears;
-      credit = balance h account .credit;
-      deposit = balance h account .deposit;
+      arrears = b .arrears;
+      credit = b .credit;
+      deposit = b .deposit;
       held = total heldOf h h account;
       «links_read» = min allowance (length es);
-      bills = total standingBill h (take allowance es) account;
-      payments = total standingPayment h (take allowance es) account;
       complete = leb (length es) allowance;
+      bills = total (standingAmount kind.Bill) h (take allowance es) account;
+      payments = total (standingAmount kind.Payment) h (take allowance es) account;
     }
 statementBy (suc n) h account allowance =
     record { refusal = suc n; arrears = 0; credit = 0; deposit = 0; held = 0; «links_read» = 0; bills = 0; payments = 0; complete = false }
@@ -39,11 +40,6 @@ unfoldable pub statementTold : History → ℕ → ℕ → StatementReply
 statementTold h account allowance = statementBy (firstOf ((not (within account 1 accounts) ⇒ 3) ∷ [])) h account allowance
 
 -- CONTRIBUTION QUERY
--- an entry that names what the query asks for
-abbrev pub asking : ℕ → ℕ → ℕ → Raw
-asking account node serial =
-    record { kind = 0; node = 0; account = account; day = 0; serial = 0; amount = 0; «named_serial» = serial; a = 0; b = 0; «named_node» = node }
-
 -- it refuses by 2, 3 or 8 in that order
 abbrev pub contributionBy : ℕ → History → Raw → ContributionReply
 contributionBy zero h e =
