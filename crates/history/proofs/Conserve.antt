@@ -6,13 +6,13 @@ use mathlib.Core.Bool.{Bool, true, false, cond, true≢false}
 use mathlib.Core.List.{[], _∷_}
 use lib.Dec.{eqb, leb}
 use borrow.Author.Tests.{eqb-true, eq-eqb, leb-true, leb-false}
-use Rattle.entries.specs.Kinds.{kindOf}
+use Rattle.entries.specs.Kinds.{kindOf, sameOf}
 use Rattle.entries.specs.declared.raw.Raw.{Raw}
 use Rattle.entries.specs.declared.kinds.Kind.{Kind}
 use Rattle.entries.specs.declared.kinds.Kind.the-variants as kind
 use Rattle.rules.specs.Formulas.{billed, interest}
 use Rattle.rules.specs.Moves.{settles, leaves}
-use Rattle.history.specs.History.{History, is, naming, names, found, find, Fate, fateOf, posted, refundOf, change, fate, Balance, Move, stays, charges, credits, refunds, deposits, returns, retains, restates, moved, moveBy, balance, Amounts, answered, amounts, judge, total, amountOf, standingAmount, heldOf, addedUp, toArrears, refundsPaid}
+use Rattle.history.specs.History.{History, naming, names, found, find, Fate, fateOf, posted, refundOf, change, fate, Balance, Move, stays, charges, credits, refunds, deposits, returns, retains, restates, moved, moveBy, balance, Amounts, answered, amounts, judge, total, amountOf, standingAmount, heldOf, addedUp, toArrears, refundsPaid}
 use Rattle.history.specs.Laws.{Valid, empty, joins, In, newest, older, Conserved, Divided}
 use Rattle.history.proofs.Accept.{accepts, Sort, as-contribution, as-added, as-bill, as-payment, as-deposit, as-return, as-expiry, as-correction, sorted, Role, alone, upon, role}
 use Rattle.history.proofs.Names.{pointed, hit, unnamed, no-customers, Misses, none, miss, Hits, first, later, plain, misses-kind, hits, names-found, names-points, fate-miss, fate-hit, customers-miss, customers-hit, customers-other}
@@ -34,7 +34,7 @@ module _ (f : Kind → Raw → Fate → ℕ) (c : Raw) (h : History) (a : ℕ) w
 
 -- a posted entry's fate, of a kind
 abbrev pub postedAs : Kind → Raw → Fate
-postedAs k e = fateOf (e .amount) 0 0 false (cond (is k kind.Bill) (billed (e .amount) (e .b) (e .a)) (e .amount)) false
+postedAs k e = fateOf (e .amount) 0 0 false (cond (sameOf k kind.Bill) (billed (e .amount) (e .b) (e .a)) (e .amount)) false
 
 -- the five sums over entries
 record Sums : Type 0 where
@@ -270,8 +270,8 @@ module _ {h : History} (v : Valid h) (r : Raw) (j : judge h r ≡ 0) where
       rw (
         fate-miss r h r (plain r r (ap naming k)),
         unnamed v r fresh,
-        customers-other (λ (x : Amounts). x .settled) r h r (ap (λ (l : Kind). is l kind.AddedCustomer) k),
-        customers-other (λ (x : Amounts). x .paidOut) r h r (ap (λ (l : Kind). is l kind.AddedCustomer) k),
+        customers-other (λ (x : Amounts). x .settled) r h r (ap (λ (l : Kind). sameOf l kind.AddedCustomer) k),
+        customers-other (λ (x : Amounts). x .paidOut) r h r (ap (λ (l : Kind). sameOf l kind.AddedCustomer) k),
         no-customers v (λ (x : Amounts). x .settled) r fresh,
         no-customers v (λ (x : Amounts). x .paidOut) r fresh,
       )
@@ -302,7 +302,7 @@ module _ {h : History} (v : Valid h) (r : Raw) (j : judge h r ≡ 0) where
 
   divided-expired : (e : Raw) → kindOf (r .kind) ≡ kind.Expiry → names r e ≡ true → fate h e .closed ≡ false → Divided h e → Divided (r ∷ h) e
   divided-expired e k n o l =
-      rw (fate-hit r h e n, customers-other (λ (x : Amounts). x .settled) r h e (ap (λ (l : Kind). is l kind.AddedCustomer) k), customers-other (λ (x : Amounts). x .paidOut) r h e (ap (λ (l : Kind). is l kind.AddedCustomer) k), k)
+      rw (fate-hit r h e n, customers-other (λ (x : Amounts). x .settled) r h e (ap (λ (l : Kind). sameOf l kind.AddedCustomer) k), customers-other (λ (x : Amounts). x .paidOut) r h e (ap (λ (l : Kind). sameOf l kind.AddedCustomer) k), k)
       (omega (arith, still-open h e o))
 
   divided-hit : (e : Raw) → In e h → kindOf (e .kind) ≡ kind.Contribution → names r e ≡ true → Divided h e → Sort h r → Divided (r ∷ h) e

@@ -14,7 +14,7 @@ use Rattle.history.specs.History.{accounts, balance, total, heldOf}
 use Rattle.history.specs.Laws.{Lawful}
 use Rattle.history.specs.Agreement.{Kept}
 use Rattle.history.specs.Carry.{carryRefusalOf, carryBookOf, carryResultsOf}
-use Rattle.history.specs.Calls.{Call, posting, carryOver, statement, contribution, save, Answer, posted, carried, stated, given, saved, toldAll, historyOf}
+use Rattle.history.specs.Calls.{Call, posting, carryOver, statement, contribution, save, Answer, posted, carried, stated, given, saved, answersIn, historyOf}
 
 -- the calls on a book: the next book, and the answer
 unfoldable pub callBook : Book → Call → Book
@@ -45,7 +45,7 @@ bookOf cs = bookAfter freshBook cs
 
 pub record Right (cs : List Call) : Type 0 where
   -- every answer is what the history says at that point: refusals, the four amounts, statements, contribution queries, saves
-  pub answered : answers freshBook cs ≡ toldAll [] cs
+  pub answered : answers freshBook cs ≡ answersIn [] cs
   -- the book after the list has the history's arrears, credit and amounts held
   pub arrears : (a : ℕ) → 1 ≤ a → a ≤ accounts → accountAt (bookOf cs) a .arrears .0 ≡ balance (historyOf cs) a .arrears
   pub credit : (a : ℕ) → 1 ≤ a → a ≤ accounts → accountAt (bookOf cs) a .credit .0 ≡ balance (historyOf cs) a .credit

@@ -5,8 +5,8 @@ use mathlib.Core.Bool.{Bool, true, false, cond, not, _&&_, _||_}
 use mathlib.Core.List.{List, [], _∷_, _++_}
 use lib.ListN.{length, drop}
 use lib.Dec.{eqb, leb, ltb}
-use Rattle.entries.specs.Kinds.{numberOf, kindOf}
-use Rattle.entries.specs.Ranges.{inRangeOf}
+use Rattle.entries.specs.Kinds.{kindOf, sameOf}
+use Rattle.entries.specs.Ranges.{between, inRangeOf}
 use Rattle.entries.specs.declared.raw.Raw.{Raw}
 use Rattle.entries.specs.declared.kinds.Kind.{Kind}
 use Rattle.entries.specs.declared.kinds.Kind.the-variants as kind
@@ -34,9 +34,6 @@ period = 1826
 abbrev pub History : Type 0
 History = List Raw
 
-abbrev pub is : Kind → Kind → Bool
-is k l = eqb (numberOf k) (numberOf l)
-
 -- the serial of a node's last entry, 0 where it has none
 unfoldable pub lastSerial : History → ℕ → ℕ
 lastSerial [] node = 0
@@ -44,11 +41,11 @@ lastSerial (r ∷ h) node = cond (eqb (r .node) node) (r .serial) (lastSerial h 
 
 -- the kinds that name an entry
 abbrev pub naming : Kind → Bool
-naming k = is k kind.AddedCustomer || (is k kind.Expiry || is k kind.Correction)
+naming k = sameOf k kind.AddedCustomer || (sameOf k kind.Expiry || sameOf k kind.Correction)
 
 -- an added customer and an expiry name a contribution, a correction a bill or a payment
 abbrev pub suits : Kind → Kind → Bool
-suits k l = cond (is k kind.Correction) (is l kind.Bill || is l kind.Payment) (is l kind.Contribution)
+suits k l = cond (sameOf k kind.Correction) (sameOf l kind.Bill || sameOf l kind.Payment) (sameOf l kind.Contribution)
 
 -- e is of c's account, and carries the named node and named serial as its node and serial
 unfoldable pub points : Raw → Raw → Bool
@@ -86,7 +83,7 @@ fateOf held retained added closed standing corrected =
 
 -- 1: held = amount; the standing amount is first the billed amount of a bill, or the amount of a payment
 abbrev pub posted : Raw → Fate
-posted e = fateOf (e .amount) 0 0 false (cond (is (kindOf (e .kind)) kind.Bill) (billed (e .amount) (e .b) (e .a)) (e .amount)) false
+posted e = fateOf (e .amount) 0 0 false (cond (sameOf (kindOf (e .kind)) kind.Bill) (billed (e .amount) (e .b) (e .a)) (e .amount)) false
 
 -- the refund that an added customer c brings to a contribution e
 abbrev pub refundOf : Raw → Raw → Fate → ℕ
@@ -161,7 +158,7 @@ moveOf kind.Deposit r b e f = deposits (r .amount) (r .a) (r .day)
 moveOf kind.DepositReturn r b e f = returns (interest (b .deposit) (b .rate) (r .day - b .deposited))
 moveOf kind.Expiry r b e f = retains (f .held)
 moveOf kind.Correction r b e f =
-    cond (is (kindOf (e .kind)) kind.Bill) (restates (f .standing) (r .amount)) (restates (r .amount) (f .standing))
+    cond (sameOf (kindOf (e .kind)) kind.Bill) (restates (f .standing) (r .amount)) (restates (r .amount) (f .standing))
 
 abbrev pub moved : Move → Balance → Balance
 moved stays b = b
@@ -218,29 +215,26 @@ abbrev pub firstOf : List Row → ℕ
 firstOf [] = 0
 firstOf (x ∷ xs) = cond (x .broken) (x .number) (firstOf xs)
 
-abbrev pub within : ℕ → ℕ → ℕ → Bool
-within n low high = leb low n && leb n high
-
 -- e and f are the entry that r names and its fate, b is the balance of r's account
 abbrev pub refusals : History → Raw → Kind → Raw → Fate → Balance → List Row
 refusals h r k e f b =
     let l = kindOf (e .kind) in
-    (is k kind.Unknown ⇒ 1) ∷
-    (not (within (r .node) 1 2) ⇒ 2) ∷
-    (not (within (r .account) 1 accounts) ⇒ 3) ∷
+    (sameOf k kind.Unknown ⇒ 1) ∷
+    (not (between (r .node) 1 2) ⇒ 2) ∷
+    (not (between (r .account) 1 accounts) ⇒ 3) ∷
     (ltb lastDay (r .day) ⇒ 4) ∷
     (not (inRangeOf r k) ⇒ 5) ∷
     (leb (r .serial) (lastSerial h (r .node)) ⇒ 6) ∷
     (leb entries (length h) ⇒ 7) ∷
     (naming k && not (suits k l) ⇒ 8) ∷
-    (is k kind.Deposit && ltb 0 (b .deposit) || is k kind.DepositReturn && eqb (b .deposit) 0 ⇒ 9) ∷
-    (ltb (r .day) (cond (is k kind.DepositReturn) (b .deposited) (e .day)) ⇒ 10) ∷
-    (is l kind.Contribution && f .closed ⇒ 11) ∷
-    (is k kind.AddedCustomer && leb (e .day + period) (r .day) ⇒ 12) ∷
-    (is k kind.Expiry && ltb (r .day) (e .day + period) ⇒ 13) ∷
-    (is k kind.AddedCustomer && (eqb (r .b) 1 && eqb (e .b) 3) ⇒ 14) ∷
-    (is k kind.AddedCustomer && ltb (e .a) (r .a) ⇒ 15) ∷
-    ((is l kind.Bill || is l kind.Payment) && f .corrected ⇒ 16) ∷ []
+    (sameOf k kind.Deposit && ltb 0 (b .deposit) || sameOf k kind.DepositReturn && eqb (b .deposit) 0 ⇒ 9) ∷
+    (ltb (r .day) (cond (sameOf k kind.DepositReturn) (b .deposited) (e .day)) ⇒ 10) ∷
+    (sameOf l kind.Contribution && f .closed ⇒ 11) ∷
+    (sameOf k kind.AddedCustomer && leb (e .day + period) (r .day) ⇒ 12) ∷
+    (sameOf k kind.Expiry && ltb (r .day) (e .day + period) ⇒ 13) ∷
+    (sameOf k kind.AddedCustomer && (eqb (r .b) 1 && eqb (e .b) 3) ⇒ 14) ∷
+    (sameOf k kind.AddedCustomer && ltb (e .a) (r .a) ⇒ 15) ∷
+    ((sameOf l kind.Bill || sameOf l kind.Payment) && f .corrected ⇒ 16) ∷ []
 
 -- the refusal of an offered entry, read against the history so far; 0 where it joins
 unfoldable pub judge : History → Raw → ℕ
@@ -294,13 +288,13 @@ total f all (r ∷ h) account =
 
 -- contributions and deposits are summed by their amounts, bills and payments at their standing amounts, contributions by what is held
 abbrev pub amountOf : Kind → Kind → Raw → Fate → ℕ
-amountOf l k e f = cond (is k l) (e .amount) 0
+amountOf l k e f = cond (sameOf k l) (e .amount) 0
 
 abbrev pub standingAmount : Kind → Kind → Raw → Fate → ℕ
-standingAmount l k e f = cond (is k l) (f .standing) 0
+standingAmount l k e f = cond (sameOf k l) (f .standing) 0
 
 abbrev pub heldOf : Kind → Raw → Fate → ℕ
-heldOf k e f = cond (is k kind.Contribution) (f .held) 0
+heldOf k e f = cond (sameOf k kind.Contribution) (f .held) 0
 
 -- interest, paid out and retained are added up posting by posting
 unfoldable pub addedUp : (Amounts → ℕ) → History → ℕ → ℕ
@@ -311,7 +305,7 @@ addedUp f (r ∷ h) account = cond (eqb (r .account) account) (f (amounts h r)) 
 unfoldable pub ofCustomers : (Amounts → ℕ) → History → Raw → ℕ
 ofCustomers f [] e = 0
 ofCustomers f (c ∷ h) e =
-    cond (is (kindOf (c .kind)) kind.AddedCustomer && points c e) (f (amounts h c)) 0 + ofCustomers f h e
+    cond (sameOf (kindOf (c .kind)) kind.AddedCustomer && points c e) (f (amounts h c)) 0 + ofCustomers f h e
 
 abbrev pub toArrears : History → Raw → ℕ
 toArrears h e = ofCustomers (λ (x : Amounts). x .settled) h e

@@ -4,12 +4,13 @@ use mathlib.Core.Bool.{Bool, false, cond, not}
 use mathlib.Core.List.{[], _∷_}
 use lib.ListN.{length, take}
 use lib.Dec.{eqb, leb}
-use Rattle.entries.specs.Kinds.{kindOf}
+use Rattle.entries.specs.Kinds.{kindOf, sameOf}
+use Rattle.entries.specs.Ranges.{between}
 use Rattle.entries.specs.declared.raw.Raw.{Raw}
 use Rattle.entries.specs.declared.kinds.Kind.the-variants as kind
 use Rattle.queries.specs.declared.statements.StatementReply.{StatementReply}
 use Rattle.queries.specs.declared.contributions.ContributionReply.{ContributionReply}
-use Rattle.history.specs.History.{History, accounts, is, within, asking, find, fate, entryIn, balance, _⇒_, firstOf, total, standingAmount, heldOf, toArrears, refundsPaid}
+use Rattle.history.specs.History.{History, accounts, asking, find, fate, entryIn, balance, _⇒_, firstOf, total, standingAmount, heldOf, toArrears, refundsPaid}
 
 -- an account's entries, newest first
 unfoldable pub entriesOf : History → ℕ → History
@@ -30,8 +31,8 @@ statementBy zero h account allowance =
     statementReply 0 (b .arrears) (b .credit) (b .deposit) (total heldOf h h account) (min allowance (length es)) bills payments (leb (length es) allowance)
 statementBy (suc n) h account allowance = statementReply (suc n) 0 0 0 0 0 0 0 false
 
-unfoldable pub statementTold : History → ℕ → ℕ → StatementReply
-statementTold h account allowance = statementBy (firstOf ((not (within account 1 accounts) ⇒ 3) ∷ [])) h account allowance
+unfoldable pub statementIn : History → ℕ → ℕ → StatementReply
+statementIn h account allowance = statementBy (firstOf ((not (between account 1 accounts) ⇒ 3) ∷ [])) h account allowance
 
 abbrev pub contributionReply : ℕ → ℕ → ℕ → ℕ → ℕ → ℕ → ℕ → Bool → ContributionReply
 contributionReply n amount toArrears paidOut held retained added closed =
@@ -43,7 +44,7 @@ contributionBy zero h e =
     let f = fate h e in contributionReply 0 (e .amount) (toArrears h e) (refundsPaid h e) (f .held) (f .retained) (f .added) (f .closed)
 contributionBy (suc n) h e = contributionReply (suc n) 0 0 0 0 0 0 false
 
-unfoldable pub contributionTold : History → ℕ → ℕ → ℕ → ContributionReply
-contributionTold h account node serial =
+unfoldable pub contributionIn : History → ℕ → ℕ → ℕ → ContributionReply
+contributionIn h account node serial =
     let e = entryIn (find h (asking account node serial)) in
-    contributionBy (firstOf ((not (within node 1 2) ⇒ 2) ∷ (not (within account 1 accounts) ⇒ 3) ∷ (not (is (kindOf (e .kind)) kind.Contribution) ⇒ 8) ∷ [])) h e
+    contributionBy (firstOf ((not (between node 1 2) ⇒ 2) ∷ (not (between account 1 accounts) ⇒ 3) ∷ (not (sameOf (kindOf (e .kind)) kind.Contribution) ⇒ 8) ∷ [])) h e
