@@ -13,24 +13,19 @@ use Rattle.history.specs.Queries.{statementIn, contributionIn}
 
 -- what the calls are given
 pub data Call : Type 0 where
-  -- an entry
   posting : Raw → Call
-  -- entries, and the result list as it is lent
-  carryOver : List Raw → List ℕ → Call
-  -- an account and an allowance
-  statement : ℕ → ℕ → Call
-  -- an account, a node and a serial
-  contribution : ℕ → ℕ → ℕ → Call
-  -- the buffer as it is lent
-  save : List ℕ → Call
+  carryOver : List Raw → List ℕ → Call  -- the entries, and the result list as it is lent
+  statement : ℕ → ℕ → Call  -- account, allowance
+  contribution : ℕ → ℕ → ℕ → Call  -- account, node, serial
+  save : List ℕ → Call  -- the buffer as it is lent
 
--- what they answer: in a carry-over the refusal number and the result list after it, in a save the refusal number and the length
+-- what they answer
 pub data Answer : Type 0 where
   posted : Reply → Answer
-  carried : ℕ → List ℕ → Answer
+  carried : ℕ → List ℕ → Answer  -- the refusal number, and the result list after it
   stated : StatementReply → Answer
   given : ContributionReply → Answer
-  saved : ℕ → ℕ → Answer
+  saved : ℕ → ℕ → Answer  -- the refusal number, and the length
 
 -- a posting offers the history one entry, a carry-over that isn't itself refused each of its entries in turn; other calls add nothing
 unfoldable pub callOffers : History → Call → History
@@ -51,7 +46,7 @@ answerIn h (statement account allowance) = stated (statementIn h account allowan
 answerIn h (contribution account node serial) = given (contributionIn h account node serial)
 answerIn h (save buffer) = saveIn h buffer
 
--- the history after a list of calls, and what it says of each call at its point
+-- the history after a list of calls, and its answer to each at its point
 unfoldable pub historyAfter : History → List Call → History
 historyAfter h [] = h
 historyAfter h (c ∷ cs) = historyAfter (callOffers h c) cs
