@@ -12,7 +12,7 @@ use Rattle.entries.specs.Ranges.{amountMost, limitsOf, between, bFits, namedFit
 use Rattle.entries.specs.declared.raw.Raw.{Raw}
 use Rattle.entries.specs.declared.kinds.Kind.{Kind}
 use Rattle.entries.specs.declared.kinds.Kind.the-variants as kind
-use Rattle.history.specs.History.{accounts, entries, lastDay, period, History, lastSerial, naming, suits, Sought, missing, found, find, named, Fate, fate, entryIn, fateIn, Balance, balance, Row, firstOf, refusals, judge}
+use Rattle.history.specs.History.{accounts, entries, period, History, lastSerial, naming, suits, Sought, missing, found, find, named, Fate, fate, entryIn, fateIn, Balance, balance, Row, firstOf, refusals, judge}
 use Rattle.history.specs.Laws.{Valid, empty, joins}
 
 pub and-left : (a b : Bool) → (a && b) ≡ true → a ≡ true
@@ -124,7 +124,7 @@ pub record Passed (h : History) (r : Raw) (k : Kind) (e : Raw) (f : Fate) (b : B
   pub node-high : r .node ≤ 2
   pub account-low : 1 ≤ r .account
   pub account-high : r .account ≤ accounts
-  pub day : r .day ≤ lastDay
+  pub day : r .day ≤ 36524
   pub ranges : InRange r k
   pub serial-above : lastSerial h (r .node) < r .serial
   pub room : length h < entries

@@ -13,7 +13,7 @@ use Rattle.entries.specs.declared.raw.Raw.{Raw}
 use Rattle.entries.specs.declared.kinds.Kind.{Kind}
 use Rattle.entries.specs.declared.kinds.Kind.the-variants as kind
 use Rattle.rules.specs.Formulas.{billed, interest}
-use Rattle.history.specs.History.{History, lastDay, names, Fate, change, fate, Balance, Move, stays, charges, credits, refunds, deposits, returns, retains, moved, moveBy, balance, judge}
+use Rattle.history.specs.History.{History, names, Fate, change, fate, Balance, Move, stays, charges, credits, refunds, deposits, returns, retains, moved, moveBy, balance, judge}
 use Rattle.history.specs.Laws.{Valid, empty, joins, In, newest, older}
 use Rattle.history.proofs.Accept.{InRange, accepts, Sort, as-contribution, as-added, as-bill, as-payment, as-deposit, as-return, as-expiry, as-correction, sorted}
 use Rattle.history.proofs.Names.{hit}
@@ -32,10 +32,10 @@ billed-small charge served days c s d =
     let p : charge * served ≤ amountMost * 62 = mul-le-mul c s in
     omega (arith, div-le-self (2 * (charge * served) + days) (2 * days))
 
-pub interest-small : (deposit rate days : ℕ) → deposit ≤ amountMost → rate ≤ 2000 → days ≤ lastDay → interest deposit rate days ≤ large
+pub interest-small : (deposit rate days : ℕ) → deposit ≤ amountMost → rate ≤ 2000 → days ≤ 36524 → interest deposit rate days ≤ large
 interest-small deposit rate days d r t =
     let p : deposit * rate ≤ amountMost * 2000 = mul-le-mul d r in
-    let q : deposit * rate * days ≤ amountMost * 2000 * lastDay = mul-le-mul p t in
+    let q : deposit * rate * days ≤ amountMost * 2000 * 36524 = mul-le-mul p t in
     omega arith
 
 first-small : (e : Raw) (t : Bool) → InRange e (kindOf (e .kind)) → cond t (billed (e .amount) (e .b) (e .a)) (e .amount) ≤ large

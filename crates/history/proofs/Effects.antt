@@ -26,7 +26,7 @@ use Rattle.rules.specs.declared.changes.Found.the-variants.{At, Nothing}
 use Rattle.rules.specs.declared.changes.Change.{Change}
 use Rattle.rules.specs.declared.changes.Outcome.the-variants.{Accepted}
 use Rattle.rules.proofs.Plain.{plain}
-use Rattle.history.specs.History.{lastDay, Fate, posted, refundOf, change, Balance, Move, stays, charges, credits, refunds, deposits, returns, retains, moved, Amounts, answered}
+use Rattle.history.specs.History.{Fate, posted, refundOf, change, Balance, Move, stays, charges, credits, refunds, deposits, returns, retains, moved, Amounts, answered}
 use Rattle.history.specs.Agreement.{keptAccount, keptData}
 
 abbrev pub keptAmounts : Amounts → four′.Amounts
@@ -107,7 +107,7 @@ module _ (r : Raw) (b : Balance) (newest : ℕ) (f : Found) (d : Data) where
   unfolding effectOf depositOf holdingOf
   deposit-effect = refl
 
-  pub return-effect : b .deposit ≤ amountMost → b .rate ≤ 2000 → r .day ≤ lastDay →
+  pub return-effect : b .deposit ≤ amountMost → b .rate ≤ 2000 → r .day ≤ 36524 →
       b .deposit + interest (b .deposit) (b .rate) (r .day - b .deposited) ≤ most →
       effectOf r kind.DepositReturn (keptAccount b newest) f d ≡
       Accepted

@@ -8,7 +8,7 @@ use Rattle.entries.specs.declared.raw.Raw.{Raw}
 use Rattle.rules.specs.declared.answers.Reply.{Reply}
 use Rattle.queries.specs.declared.statements.StatementReply.{StatementReply}
 use Rattle.queries.specs.declared.contributions.ContributionReply.{ContributionReply}
-use Rattle.history.specs.History.{History, offer, repliedOf, carryNumber, carryOffers, carryVerdicts}
+use Rattle.history.specs.History.{History, offer, repliedOf, tooShort, carryOffers, carryVerdicts}
 use Rattle.history.specs.Queries.{statementIn, contributionIn}
 
 -- what the calls are given
@@ -41,7 +41,7 @@ saveIn h buffer = let bytes = 24 * (length h + 1) in cond (ltb (length buffer) b
 
 unfoldable pub answerIn : History → Call → Answer
 answerIn h (posting r) = posted (repliedOf h r)
-answerIn h (carryOver rs results) = carried (carryNumber rs results) (carryVerdicts h rs results)
+answerIn h (carryOver rs results) = carried (cond (tooShort rs results) 22 0) (carryVerdicts h rs results)
 answerIn h (statement account allowance) = stated (statementIn h account allowance)
 answerIn h (contribution account node serial) = given (contributionIn h account node serial)
 answerIn h (save buffer) = saveIn h buffer

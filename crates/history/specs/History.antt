@@ -22,10 +22,6 @@ accounts = 128
 abbrev pub entries : ℕ
 entries = 1024
 
--- 2099-12-31
-abbrev pub lastDay : ℕ
-lastDay = 36524
-
 -- the days from a contribution on in which added customers bring refunds
 abbrev pub period : ℕ
 period = 1826
@@ -222,7 +218,7 @@ refusals h r k e f b =
     (sameOf k kind.Unknown ⇒ 1) ∷
     (not (between (r .node) 1 2) ⇒ 2) ∷
     (not (between (r .account) 1 accounts) ⇒ 3) ∷
-    (ltb lastDay (r .day) ⇒ 4) ∷
+    (ltb 36524 (r .day) ⇒ 4) ∷
     (not (inRangeOf r k) ⇒ 5) ∷
     (leb (r .serial) (lastSerial h (r .node)) ⇒ 6) ∷
     (leb entries (length h) ⇒ 7) ∷
@@ -266,12 +262,9 @@ unfoldable pub verdicts : History → List Raw → List ℕ
 verdicts h [] = []
 verdicts h (r ∷ rs) = judge h r ∷ verdicts (offer h r) rs
 
--- 22: the result list is shorter than the entries, and none is offered
+-- refusal 22: the result list is shorter than the entries; none is offered, and the list is unchanged
 abbrev pub tooShort : List Raw → List ℕ → Bool
 tooShort rs results = ltb (length results) (length rs)
-
-abbrev pub carryNumber : List Raw → List ℕ → ℕ
-carryNumber rs results = cond (tooShort rs results) 22 0
 
 abbrev pub carryOffers : History → List Raw → List ℕ → History
 carryOffers h rs results = cond (tooShort rs results) h (offers h rs)
