@@ -7,12 +7,12 @@ use mathlib.Core.List.{List, [], _∷_}
 use lib.ListN.{length}
 use lib.Dec.{eqb, leb, ltb}
 use borrow.Author.Tests.{ltb-false, leb-true, leb-false, eqb-true, not-false}
-use Rattle.entries.specs.Kinds.{kindOf}
+use Rattle.entries.specs.Kinds.{kindOf, sameOf}
 use Rattle.entries.specs.Ranges.{amountMost, limitsOf, between, bFits, namedFits, inRangeOf}
 use Rattle.entries.specs.declared.raw.Raw.{Raw}
 use Rattle.entries.specs.declared.kinds.Kind.{Kind}
 use Rattle.entries.specs.declared.kinds.Kind.the-variants as kind
-use Rattle.history.specs.History.{accounts, entries, lastDay, period, History, is, lastSerial, naming, suits, Sought, missing, found, find, named, Fate, fate, entryIn, fateIn, Balance, balance, Row, firstOf, refusals, judge}
+use Rattle.history.specs.History.{accounts, entries, period, History, lastSerial, naming, suits, Sought, missing, found, find, named, Fate, fate, entryIn, fateIn, Balance, balance, Row, firstOf, refusals, judge}
 use Rattle.history.specs.Laws.{Valid, empty, joins}
 
 pub and-left : (a b : Bool) → (a && b) ≡ true → a ≡ true
@@ -119,22 +119,23 @@ rate-high a = refl
 
 -- WHAT AN ACCEPTED ENTRY HAS PASSED
 pub record Passed (h : History) (r : Raw) (k : Kind) (e : Raw) (f : Fate) (b : Balance) : Type 0 where
-  pub kind-known : is k kind.Unknown ≡ false
+  pub kind-known : sameOf k kind.Unknown ≡ false
   pub node-low : 1 ≤ r .node
   pub node-high : r .node ≤ 2
   pub account-low : 1 ≤ r .account
   pub account-high : r .account ≤ accounts
-  pub day : r .day ≤ lastDay
+  pub day : r .day ≤ 36524
   pub ranges : InRange r k
   pub serial-above : lastSerial h (r .node) < r .serial
   pub room : length h < entries
   pub suited : (naming k && not (suits k (kindOf (e .kind)))) ≡ false
-  pub deposit : (is k kind.Deposit && ltb 0 (b .deposit) || is k kind.DepositReturn && eqb (b .deposit) 0) ≡ false
-  pub unclosed : (is (kindOf (e .kind)) kind.Contribution && f .closed) ≡ false
-  pub period-runs : (is k kind.AddedCustomer && leb (e .day + period) (r .day)) ≡ false
-  pub uncorrected : ((is (kindOf (e .kind)) kind.Bill || is (kindOf (e .kind)) kind.Payment) && f .corrected) ≡ false
+  pub deposit : (sameOf k kind.Deposit && ltb 0 (b .deposit) || sameOf k kind.DepositReturn && eqb (b .deposit) 0) ≡ false
+  pub unclosed : (sameOf (kindOf (e .kind)) kind.Contribution && f .closed) ≡ false
+  pub period-runs : (sameOf k kind.AddedCustomer && leb (e .day + period) (r .day)) ≡ false
+  pub uncorrected : ((sameOf (kindOf (e .kind)) kind.Bill || sameOf (kindOf (e .kind)) kind.Payment) && f .corrected) ≡ false
 
 pass : (h : History) (r : Raw) (k : Kind) (e : Raw) (f : Fate) (b : Balance) → firstOf (refusals h r k e f b) ≡ 0 → Passed h r k e f b
+unfolding between
 pass h r k e f b z =
     let s = silent (refusals h r k e f b) (omega arith) z in
     let node = not-false _ (s .1 .0) in
@@ -195,7 +196,7 @@ pub named-none : (h : History) (r : Raw) → naming (kindOf (r .kind)) ≡ false
 unfolding named
 named-none h r e = rw e
 
-pub is-contribution : (l : Kind) → not (is l kind.Contribution) ≡ false → l ≡ kind.Contribution
+pub is-contribution : (l : Kind) → not (sameOf l kind.Contribution) ≡ false → l ≡ kind.Contribution
 is-contribution kind.Unknown e = absurd (true≢false e)
 is-contribution kind.Contribution e = refl
 is-contribution kind.AddedCustomer e = absurd (true≢false e)
@@ -206,7 +207,7 @@ is-contribution kind.DepositReturn e = absurd (true≢false e)
 is-contribution kind.Expiry e = absurd (true≢false e)
 is-contribution kind.Correction e = absurd (true≢false e)
 
-pub is-sum : (l : Kind) → not (is l kind.Bill || is l kind.Payment) ≡ false → (b : Bool) × (l ≡ cond b kind.Bill kind.Payment)
+pub is-sum : (l : Kind) → not (sameOf l kind.Bill || sameOf l kind.Payment) ≡ false → (b : Bool) × (l ≡ cond b kind.Bill kind.Payment)
 is-sum kind.Unknown e = absurd (true≢false e)
 is-sum kind.Contribution e = absurd (true≢false e)
 is-sum kind.AddedCustomer e = absurd (true≢false e)
@@ -228,7 +229,7 @@ module _ (h : History) (r : Raw) where
   added k (found i e) f p =
       as-added k i e f (is-contribution (kindOf (e .kind)) (p .suited)) (leb-false _ _ (p .period-runs))
 
-  unclosed : (l : Kind) (t : Bool) → l ≡ kind.Contribution → (is l kind.Contribution && t) ≡ false → t ≡ false
+  unclosed : (l : Kind) (t : Bool) → l ≡ kind.Contribution → (sameOf l kind.Contribution && t) ≡ false → t ≡ false
   unclosed l t k e = rw k at e
 
   expired : kindOf (r .kind) ≡ kind.Expiry → (s : Sought) → find h r ≡ s →
@@ -238,7 +239,7 @@ module _ (h : History) (r : Raw) where
       let l = is-contribution (kindOf (e .kind)) (p .suited) in
       as-expiry k i e f l (unclosed (kindOf (e .kind)) (fate h e .closed) l (p .unclosed))
 
-  uncorrected : (b : Bool) (l : Kind) (t : Bool) → l ≡ cond b kind.Bill kind.Payment → ((is l kind.Bill || is l kind.Payment) && t) ≡ false → t ≡ false
+  uncorrected : (b : Bool) (l : Kind) (t : Bool) → l ≡ cond b kind.Bill kind.Payment → ((sameOf l kind.Bill || sameOf l kind.Payment) && t) ≡ false → t ≡ false
   uncorrected true l t k e = rw k at e
   uncorrected false l t k e = rw k at e
 

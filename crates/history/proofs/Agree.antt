@@ -8,7 +8,8 @@ use lib.ListN.{length, getD, set, length-set, length-replicate, getD-replicate}
 use lib.Seq.{take-all, getD-set-same, getD-set-other}
 use lib.Dec.{eqb, leb}
 use borrow.Author.Tests.{eqb-true, eqb-false, eq-eqb, le-leb, leb-true}
-use Rattle.entries.specs.Kinds.{kindOf}
+use Rattle.entries.specs.Kinds.{kindOf, sameOf}
+use Rattle.entries.specs.Ranges.{between}
 use Rattle.entries.specs.Refusals.{refusalNumber}
 use Rattle.entries.specs.Entries.{noEntry, entryOf, withOf}
 use Rattle.entries.specs.declared.raw.Raw.{Raw}
@@ -40,7 +41,7 @@ use Rattle.book.specs.Posting.{accountAt, lookupOf, namedAt, rewritten, storedO
 use Rattle.book.specs.declared.Book.{Book}
 use Rattle.book.specs.declared.Serials.{Serials}
 use Rattle.queries.specs.Chain.{chainAt}
-use Rattle.history.specs.History.{History, accounts, entries, is, within, lastSerial, naming, names, Sought, missing, found, find, named, posted, refundOf, change, fate, entryIn, fateIn, Balance, Move, stays, charges, credits, refunds, deposits, returns, retains, restates, moved, moveBy, balance, Amounts, answered, amounts, judge, joined, offer, repliedBy, repliedOf, toArrears, refundsPaid}
+use Rattle.history.specs.History.{History, accounts, entries, lastSerial, naming, Sought, missing, found, find, named, posted, refundOf, change, fate, entryIn, fateIn, Balance, Move, stays, charges, credits, refunds, deposits, returns, retains, restates, moved, moveBy, balance, Amounts, answered, amounts, judge, joined, offer, repliedBy, repliedOf, toArrears, refundsPaid}
 use Rattle.history.specs.Laws.{Valid, empty, joins}
 use Rattle.history.specs.Agreement.{newestOf, keptAccount, keptData, dataIn, keptEntry, keptChain, Rows, start, more, Agrees, Kept, Agreement}
 use Rattle.history.proofs.Accept.{and-left, and-right, accepts, fits, named-none, Sort, as-contribution, as-added, as-bill, as-payment, as-deposit, as-return, as-expiry, as-correction, sorted, Role, alone, upon, role}
@@ -56,7 +57,7 @@ use Rattle.history.proofs.Stored.{slot-at, rows-past, rows-miss, rows-h
 -- THE REFUSAL
 module _ {b : Book} {h : History} (w : Agrees b h) (v : Valid h) (r : Raw) where
   pub refusal-same : checkNumber (checkStateOf (checkEntryOf r (kindOf (r .kind)) (b .count) (lastOf (b .last) (r .node))) r (kindOf (r .kind)) (accountAt b (r .account)) (namedAt b r)) ≡ judge h r
-  unfolding judge
+  unfolding judge between
   refusal-same =
       check-same h r (kindOf (r .kind)) (b .count) (lastOf (b .last) (r .node)) (accountAt b (r .account)) (namedAt b r) (entryIn (named h r)) (fateIn h (named h r)) (balance h (r .account)) (w .counted)
       (λ t. last-same w (fits v) r t)
@@ -120,7 +121,8 @@ module _ {b : Book} {h : History} (w : Agrees b h) (v : Valid h) (r : Raw) (j : 
   abbrev last : ℕ
   last = newestOf h (r .account)
 
-  known : within (r .account) 1 accounts ≡ true
+  known : between (r .account) 1 accounts ≡ true
+  unfolding between
   known = let p = accepts h r j in rw (le-leb 1 (r .account) (p .account-low), le-leb (r .account) accounts (p .account-high)) refl
 
   account-at : accountAt b (r .account) ≡ keptAccount bal last
@@ -177,7 +179,7 @@ module _ {b : Book} {h : History} (w : Agrees b h) (v : Valid h) (r : Raw) (j : 
           c,
         ) refl
 
-    named-other : naming (kindOf (r .kind)) ≡ true → is (kindOf (r .kind)) kind.AddedCustomer ≡ false →
+    named-other : naming (kindOf (r .kind)) ≡ true → sameOf (kindOf (r .kind)) kind.AddedCustomer ≡ false →
         dataIn (r ∷ h) e ≡ keptData (kindOf (e .kind)) e (change (kindOf (r .kind)) r e (fate h e)) (toArrears h e) (refundsPaid h e)
     named-other k o =
         let p = hit v r i e f .aimed in
@@ -225,7 +227,7 @@ module _ {b : Book} {h : History} (w : Agrees b h) (v : Valid h) (r : Raw) (j : 
       close (retains (fate h e .held)) (keptData kind.Expiry r (fate (r ∷ h) r) 0 0) (found i e)
       (keptData kind.Contribution e (change kind.Expiry r e (fate h e)) (toArrears h e) (refundsPaid h e))
       (move-expiry h r bal i e f k) (rw k refl) (named-at h r bal i e f (ap naming k))
-      (named-other i e f (ap naming k) (ap (λ (l : Kind). is l kind.AddedCustomer) k) ∙ (rw (k, c) refl))
+      (named-other i e f (ap naming k) (ap (λ (l : Kind). sameOf l kind.AddedCustomer) k) ∙ (rw (k, c) refl))
       (rw (data-at i e (ap naming k) f, account-at, lookup-at, named-at h r bal i e f (ap naming k), k, c)
       (expiry-effect r bal last Nothing data′.Unused e (fate h e) i (toArrears h e) (refundsPaid h e) (fate (r ∷ h) r)))
   effect-by (as-correction k i e f true c u) =
@@ -236,7 +238,7 @@ module _ {b : Book} {h : History} (w : Agrees b h) (v : Valid h) (r : Raw) (j : 
       close (restates (fate h e .standing) (r .amount)) (keptData kind.Correction r (fate (r ∷ h) r) 0 0) (found i e)
       (keptData kind.Bill e (change kind.Correction r e (fate h e)) (toArrears h e) (refundsPaid h e))
       (move-bill-correction h r bal i e f k c) (rw k refl) (named-at h r bal i e f (ap naming k))
-      (named-other i e f (ap naming k) (ap (λ (l : Kind). is l kind.AddedCustomer) k) ∙ (rw (k, c) refl))
+      (named-other i e f (ap naming k) (ap (λ (l : Kind). sameOf l kind.AddedCustomer) k) ∙ (rw (k, c) refl))
       (rw (data-at i e (ap naming k) f, account-at, lookup-at, named-at h r bal i e f (ap naming k), k, c)
       (bill-corrected r bal last Nothing data′.Unused e (fate h e) i (toArrears h e) (refundsPaid h e) (fate (r ∷ h) r) (leb (fate h e .standing) (r .amount)) refl
       (omega (arith, bd .arrears)) (omega (arith, bd .credit))))
@@ -248,7 +250,7 @@ module _ {b : Book} {h : History} (w : Agrees b h) (v : Valid h) (r : Raw) (j : 
       close (restates (r .amount) (fate h e .standing)) (keptData kind.Correction r (fate (r ∷ h) r) 0 0) (found i e)
       (keptData kind.Payment e (change kind.Correction r e (fate h e)) (toArrears h e) (refundsPaid h e))
       (move-payment-correction h r bal i e f k c) (rw k refl) (named-at h r bal i e f (ap naming k))
-      (named-other i e f (ap naming k) (ap (λ (l : Kind). is l kind.AddedCustomer) k) ∙ (rw (k, c) refl))
+      (named-other i e f (ap naming k) (ap (λ (l : Kind). sameOf l kind.AddedCustomer) k) ∙ (rw (k, c) refl))
       (rw (data-at i e (ap naming k) f, account-at, lookup-at, named-at h r bal i e f (ap naming k), k, c)
       (payment-corrected r bal last Nothing data′.Unused e (fate h e) i (toArrears h e) (refundsPaid h e) (fate (r ∷ h) r) (leb (r .amount) (fate h e .standing)) refl
       (omega (arith, bd .arrears)) (omega (arith, bd .credit))))

@@ -7,13 +7,13 @@ use mathlib.Core.Bool.{Bool, true, false, cond}
 use mathlib.Core.List.{[], _∷_}
 use lib.ListN.{length}
 use lib.Dec.{eqb, leb}
-use Rattle.entries.specs.Kinds.{kindOf}
+use Rattle.entries.specs.Kinds.{kindOf, sameOf}
 use Rattle.entries.specs.Ranges.{amountMost}
 use Rattle.entries.specs.declared.raw.Raw.{Raw}
 use Rattle.entries.specs.declared.kinds.Kind.{Kind}
 use Rattle.entries.specs.declared.kinds.Kind.the-variants as kind
 use Rattle.rules.specs.Formulas.{billed, interest}
-use Rattle.history.specs.History.{History, lastDay, is, names, Fate, change, fate, Balance, Move, stays, charges, credits, refunds, deposits, returns, retains, moved, moveBy, balance, judge}
+use Rattle.history.specs.History.{History, names, Fate, change, fate, Balance, Move, stays, charges, credits, refunds, deposits, returns, retains, moved, moveBy, balance, judge}
 use Rattle.history.specs.Laws.{Valid, empty, joins, In, newest, older}
 use Rattle.history.proofs.Accept.{InRange, accepts, Sort, as-contribution, as-added, as-bill, as-payment, as-deposit, as-return, as-expiry, as-correction, sorted}
 use Rattle.history.proofs.Names.{hit}
@@ -32,10 +32,10 @@ billed-small charge served days c s d =
     let p : charge * served ≤ amountMost * 62 = mul-le-mul c s in
     omega (arith, div-le-self (2 * (charge * served) + days) (2 * days))
 
-pub interest-small : (deposit rate days : ℕ) → deposit ≤ amountMost → rate ≤ 2000 → days ≤ lastDay → interest deposit rate days ≤ large
+pub interest-small : (deposit rate days : ℕ) → deposit ≤ amountMost → rate ≤ 2000 → days ≤ 36524 → interest deposit rate days ≤ large
 interest-small deposit rate days d r t =
     let p : deposit * rate ≤ amountMost * 2000 = mul-le-mul d r in
-    let q : deposit * rate * days ≤ amountMost * 2000 * lastDay = mul-le-mul p t in
+    let q : deposit * rate * days ≤ amountMost * 2000 * 36524 = mul-le-mul p t in
     omega arith
 
 first-small : (e : Raw) (t : Bool) → InRange e (kindOf (e .kind)) → cond t (billed (e .amount) (e .b) (e .a)) (e .amount) ≤ large
@@ -74,7 +74,7 @@ standing-change false k c e f q w = w
 
 pub standing-small : {h : History} → Valid h → (e : Raw) → InRange e (kindOf (e .kind)) → fate h e .standing ≤ large
 unfolding fate
-standing-small empty e w = first-small e (is (kindOf (e .kind)) kind.Bill) w
+standing-small empty e w = first-small e (sameOf (kindOf (e .kind)) kind.Bill) w
 standing-small (joins {r} {h} v j) e w =
     standing-change (names r e) (kindOf (r .kind)) r e (fate h e) (accepts h r j .ranges .amount) (standing-small v e w)
 

@@ -21,19 +21,19 @@ unfolding repliedOf
 replied-number h r = number-of (judge h r) _ _
 
 -- the refusal number of a posting is the history's
-pub refusal-told : (b : Book) (h : History) → Kept b h → (r : Raw) → postOf b r .reply .refusal ≡ judge h r
-refusal-told b h w r = ap (λ (x : Reply). x .refusal) (agreement .replied b h w r) ∙ replied-number h r
+pub number-same : (b : Book) (h : History) → Kept b h → (r : Raw) → postOf b r .reply .refusal ≡ judge h r
+number-same b h w r = ap (λ (x : Reply). x .refusal) (agreement .replied b h w r) ∙ replied-number h r
 
 pub keeps-all : (b : Book) (h : History) → Kept b h → (rs : List Raw) → Kept (postsOf b rs) (offers h rs)
 unfolding postsOf offers
 keeps-all b h w [] = w
 keeps-all b h w (r ∷ rs) = keeps-all (postOf b r .book) (offer h r) (agreement .posted b h w r) rs
 
-pub tells-all : (b : Book) (h : History) → Kept b h → (rs : List Raw) → refusalsOf b rs ≡ verdicts h rs
+pub numbers-same : (b : Book) (h : History) → Kept b h → (rs : List Raw) → refusalsOf b rs ≡ verdicts h rs
 unfolding refusalsOf verdicts
-tells-all b h w [] = refl
-tells-all b h w (r ∷ rs) =
-    ap₂ (λ n ns. n ∷ ns) (refusal-told b h w r) (tells-all (postOf b r .book) (offer h r) (agreement .posted b h w r) rs)
+numbers-same b h w [] = refl
+numbers-same b h w (r ∷ rs) =
+    ap₂ (λ n ns. n ∷ ns) (number-same b h w r) (numbers-same (postOf b r .book) (offer h r) (agreement .posted b h w r) rs)
 
 either : {b b′ : Book} {h h′ : History} (t : Bool) → Kept b h → Kept b′ h′ → Kept (cond t b b′) (cond t h h′)
 either true p q = p
@@ -44,6 +44,6 @@ unfolding carryRefusalOf carryBookOf carryResultsOf
 carry-agreement =
     record {
       refused = λ rs results. refl;
-      results = λ b h w rs results. rw (tells-all b h w rs) refl;
+      results = λ b h w rs results. rw (numbers-same b h w rs) refl;
       carried = λ b h w rs results. either (tooShort rs results) w (keeps-all b h w rs);
     }

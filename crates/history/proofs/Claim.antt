@@ -13,7 +13,7 @@ use Rattle.queries.specs.Chain as chains
 use Rattle.image.specs.Saves.{refusedSave, acceptedSave, saveOf}
 use Rattle.history.specs.History.{History, heldOf}
 use Rattle.history.specs.Agreement.{Kept}
-use Rattle.history.specs.Calls.{Call, posting, carryOver, statement, contribution, save, posted, carried, stated, given, saved, callOffers, saveTold, told, historyAfter, toldAll, historyOf}
+use Rattle.history.specs.Calls.{Call, posting, carryOver, statement, contribution, save, posted, carried, stated, given, saved, callOffers, saveIn, answerIn, historyAfter, answersIn, historyOf}
 use Rattle.history.specs.Claim.{callBook, callAnswer, bookAfter, answers, bookOf, Demand3}
 use Rattle.history.proofs.Accept.{fits}
 use Rattle.history.proofs.Lawful.{laws}
@@ -21,8 +21,8 @@ use Rattle.history.proofs.Agree.{agreement}
 use Rattle.history.proofs.Carry.{carry-agreement}
 use Rattle.history.proofs.Queries.{chain-total, held-read, statement-same, contribution-same}
 
-save-same : (b : Book) (h : History) → Kept b h → (buffer : List ℕ) → saved (saveOf b buffer .refusal) (saveOf b buffer .bytes) ≡ saveTold h buffer
-unfolding saveOf saveTold
+save-same : (b : Book) (h : History) → Kept b h → (buffer : List ℕ) → saved (saveOf b buffer .refusal) (saveOf b buffer .bytes) ≡ saveIn h buffer
+unfolding saveOf saveIn
 save-same b h w buffer = rw size (go (ltb (length buffer) (24 * (length h + 1))))
   where
     size : min (b .count) 1024 ≡ length h
@@ -41,30 +41,30 @@ keeps-call b h w (statement account allowance) = w
 keeps-call b h w (contribution account node serial) = w
 keeps-call b h w (save buffer) = w
 
-tells-call : (b : Book) (h : History) → Kept b h → (c : Call) → callAnswer b c ≡ told h c
-unfolding callAnswer told
-tells-call b h w (posting r) = ap posted (agreement .replied b h w r)
-tells-call b h w (carryOver rs results) = ap₂ carried (carry-agreement .refused rs results) (carry-agreement .results b h w rs results)
-tells-call b h w (statement account allowance) = ap stated (statement-same w account allowance)
-tells-call b h w (contribution account node serial) = ap given (contribution-same w account node serial)
-tells-call b h w (save buffer) = save-same b h w buffer
+answer-same : (b : Book) (h : History) → Kept b h → (c : Call) → callAnswer b c ≡ answerIn h c
+unfolding callAnswer answerIn
+answer-same b h w (posting r) = ap posted (agreement .replied b h w r)
+answer-same b h w (carryOver rs results) = ap₂ carried (carry-agreement .refused rs results) (carry-agreement .results b h w rs results)
+answer-same b h w (statement account allowance) = ap stated (statement-same w account allowance)
+answer-same b h w (contribution account node serial) = ap given (contribution-same w account node serial)
+answer-same b h w (save buffer) = save-same b h w buffer
 
 keeps-calls : (b : Book) (h : History) → Kept b h → (cs : List Call) → Kept (bookAfter b cs) (historyAfter h cs)
 unfolding bookAfter historyAfter
 keeps-calls b h w [] = w
 keeps-calls b h w (c ∷ cs) = keeps-calls (callBook b c) (callOffers h c) (keeps-call b h w c) cs
 
-tells-calls : (b : Book) (h : History) → Kept b h → (cs : List Call) → answers b cs ≡ toldAll h cs
-unfolding answers toldAll
-tells-calls b h w [] = refl
-tells-calls b h w (c ∷ cs) = ap₂ (λ x xs. x ∷ xs) (tells-call b h w c) (tells-calls (callBook b c) (callOffers h c) (keeps-call b h w c) cs)
+answers-same : (b : Book) (h : History) → Kept b h → (cs : List Call) → answers b cs ≡ answersIn h cs
+unfolding answers answersIn
+answers-same b h w [] = refl
+answers-same b h w (c ∷ cs) = ap₂ (λ x xs. x ∷ xs) (answer-same b h w c) (answers-same (callBook b c) (callOffers h c) (keeps-call b h w c) cs)
 
 pub demand3 : Demand3
 demand3 cs =
     let w = keeps-calls freshBook [] (agreement .fresh) cs in
     let h = historyOf cs in
     record {
-      answered = tells-calls freshBook [] (agreement .fresh) cs;
+      answered = answers-same freshBook [] (agreement .fresh) cs;
       arrears = λ a l m. ap (λ (x : Account). x .arrears .0) (w .agrees .account a l m);
       credit = λ a l m. ap (λ (x : Account). x .credit .0) (w .agrees .account a l m);
       deposit = λ a l m. ap (λ (x : Account). x .deposit .0) (w .agrees .account a l m);

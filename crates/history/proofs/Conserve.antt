@@ -6,13 +6,13 @@ use mathlib.Core.Bool.{Bool, true, false, cond, true≢false}
 use mathlib.Core.List.{[], _∷_}
 use lib.Dec.{eqb, leb}
 use borrow.Author.Tests.{eqb-true, eq-eqb, leb-true, leb-false}
-use Rattle.entries.specs.Kinds.{kindOf}
+use Rattle.entries.specs.Kinds.{kindOf, sameOf}
 use Rattle.entries.specs.declared.raw.Raw.{Raw}
 use Rattle.entries.specs.declared.kinds.Kind.{Kind}
 use Rattle.entries.specs.declared.kinds.Kind.the-variants as kind
 use Rattle.rules.specs.Formulas.{billed, interest}
 use Rattle.rules.specs.Moves.{settles, leaves}
-use Rattle.history.specs.History.{History, is, naming, names, found, find, Fate, firstStanding, posted, refundOf, refunded, expired, restated, change, fate, Balance, Move, stays, charges, credits, refunds, deposits, returns, retains, restates, moved, moveBy, balance, Amounts, answered, amounts, judge, total, contributed, deposited, standingBill, standingPayment, heldOf, addedUp, toArrears, refundsPaid}
+use Rattle.history.specs.History.{History, naming, names, found, find, Fate, fateOf, posted, refundOf, change, fate, Balance, Move, stays, charges, credits, refunds, deposits, returns, retains, restates, moved, moveBy, balance, Amounts, answered, amounts, judge, total, amountOf, standingAmount, heldOf, addedUp, toArrears, refundsPaid}
 use Rattle.history.specs.Laws.{Valid, empty, joins, In, newest, older, Conserved, Divided}
 use Rattle.history.proofs.Accept.{accepts, Sort, as-contribution, as-added, as-bill, as-payment, as-deposit, as-return, as-expiry, as-correction, sorted, Role, alone, upon, role}
 use Rattle.history.proofs.Names.{pointed, hit, unnamed, no-customers, Misses, none, miss, Hits, first, later, plain, misses-kind, hits, names-found, names-points, fate-miss, fate-hit, customers-miss, customers-hit, customers-other}
@@ -34,7 +34,7 @@ module _ (f : Kind → Raw → Fate → ℕ) (c : Raw) (h : History) (a : ℕ) w
 
 -- a posted entry's fate, of a kind
 abbrev pub postedAs : Kind → Raw → Fate
-postedAs k e = record { held = e .amount; retained = 0; added = 0; closed = false; standing = firstStanding k e; corrected = false }
+postedAs k e = fateOf (e .amount) 0 0 false (cond (sameOf k kind.Bill) (billed (e .amount) (e .b) (e .a)) (e .amount)) false
 
 -- the five sums over entries
 record Sums : Type 0 where
@@ -45,7 +45,7 @@ record Sums : Type 0 where
   held : ℕ
 
 abbrev each : ((Kind → Raw → Fate → ℕ) → ℕ) → Sums
-each s = record { contributed = s contributed; paid = s standingPayment; deposited = s deposited; billed = s standingBill; held = s heldOf }
+each s = record { contributed = s (amountOf kind.Contribution); paid = s (standingAmount kind.Payment); deposited = s (amountOf kind.Deposit); billed = s (standingAmount kind.Bill); held = s heldOf }
 
 -- how the sums move: the entry's own part is added, and of what it names the new part takes the old one's place
 record Shifted (s s′ own old new : Sums) : Type 0 where
@@ -58,7 +58,7 @@ record Shifted (s s′ own old new : Sums) : Type 0 where
 abbrev shift : (s s′ own old new : (Kind → Raw → Fate → ℕ) → ℕ) →
     ((f : Kind → Raw → Fate → ℕ) → s′ f + old f ≡ own f + s f + new f) → Shifted (each s) (each s′) (each own) (each old) (each new)
 shift s s′ own old new e =
-    record { contributed = e contributed; paid = e standingPayment; deposited = e deposited; billed = e standingBill; held = e heldOf }
+    record { contributed = e (amountOf kind.Contribution); paid = e (standingAmount kind.Payment); deposited = e (amountOf kind.Deposit); billed = e (standingAmount kind.Bill); held = e heldOf }
 
 -- the amounts added up posting by posting
 abbrev plus : Amounts → Amounts → Amounts
@@ -101,22 +101,22 @@ module _ (s s′ : Sums) (u : Amounts) (b : Balance) (l : Law s u b) (r : Raw) w
 
   module _ (e : Raw) (f′ g : Fate) where
     n-added : (x : ℕ) → x ≤ g .held →
-        Shifted s s′ (each (λ f. f kind.AddedCustomer r f′)) (each (λ f. f kind.Contribution e g)) (each (λ f. f kind.Contribution e (refunded x g))) →
+        Shifted s s′ (each (λ f. f kind.AddedCustomer r f′)) (each (λ f. f kind.Contribution e g)) (each (λ f. f kind.Contribution e (fateOf (g .held - x) (g .retained) (g .added + 1) (g .closed) (g .standing) (g .corrected)))) →
         After (refunds x)
     n-added x q m = omega arith
 
-    n-expiry : Shifted s s′ (each (λ f. f kind.Expiry r f′)) (each (λ f. f kind.Contribution e g)) (each (λ f. f kind.Contribution e (expired g))) →
+    n-expiry : Shifted s s′ (each (λ f. f kind.Expiry r f′)) (each (λ f. f kind.Contribution e g)) (each (λ f. f kind.Contribution e (change kind.Expiry r e g))) →
         After (retains (g .held))
     n-expiry m = omega arith
 
     n-bill-correction : (o : Bool) → leb (g .standing) (r .amount) ≡ o →
-        Shifted s s′ (each (λ f. f kind.Correction r f′)) (each (λ f. f kind.Bill e g)) (each (λ f. f kind.Bill e (restated (r .amount) g))) →
+        Shifted s s′ (each (λ f. f kind.Correction r f′)) (each (λ f. f kind.Bill e g)) (each (λ f. f kind.Bill e (change kind.Correction r e g))) →
         After (cond o (charges (r .amount - g .standing)) (credits (g .standing - r .amount)))
     n-bill-correction true t m = omega (arith, leb-true (g .standing) (r .amount) t)
     n-bill-correction false t m = omega (arith, leb-false (g .standing) (r .amount) t)
 
     n-payment-correction : (o : Bool) → leb (r .amount) (g .standing) ≡ o →
-        Shifted s s′ (each (λ f. f kind.Correction r f′)) (each (λ f. f kind.Payment e g)) (each (λ f. f kind.Payment e (restated (r .amount) g))) →
+        Shifted s s′ (each (λ f. f kind.Correction r f′)) (each (λ f. f kind.Payment e g)) (each (λ f. f kind.Payment e (change kind.Correction r e g))) →
         After (cond o (charges (g .standing - r .amount)) (credits (r .amount - g .standing)))
     n-payment-correction true t m = omega (arith, leb-true (r .amount) (g .standing) t)
     n-payment-correction false t m = omega (arith, leb-false (r .amount) (g .standing) t)
@@ -235,7 +235,7 @@ conserve (joins {r} {h} v j) a = go (λ n. conserve v n) (eqb (r .account) a) re
     go ih false t =
         let s = still v r j a t (role h r (sorted h r j)) in
         let u = added-still v r j a t in
-        rw (elsewhere v r j a t, s contributed, s standingPayment, s deposited, s standingBill, s heldOf, u (λ (x : Amounts). x .interest), u (λ (x : Amounts). x .paidOut), u (λ (x : Amounts). x .retained))
+        rw (elsewhere v r j a t, s (amountOf kind.Contribution), s (standingAmount kind.Payment), s (amountOf kind.Deposit), s (standingAmount kind.Bill), s heldOf, u (λ (x : Amounts). x .interest), u (λ (x : Amounts). x .paidOut), u (λ (x : Amounts). x .retained))
         (ih a)
 
 -- EACH CONTRIBUTION
@@ -270,8 +270,8 @@ module _ {h : History} (v : Valid h) (r : Raw) (j : judge h r ≡ 0) where
       rw (
         fate-miss r h r (plain r r (ap naming k)),
         unnamed v r fresh,
-        customers-other (λ (x : Amounts). x .settled) r h r (ap (λ (l : Kind). is l kind.AddedCustomer) k),
-        customers-other (λ (x : Amounts). x .paidOut) r h r (ap (λ (l : Kind). is l kind.AddedCustomer) k),
+        customers-other (λ (x : Amounts). x .settled) r h r (ap (λ (l : Kind). sameOf l kind.AddedCustomer) k),
+        customers-other (λ (x : Amounts). x .paidOut) r h r (ap (λ (l : Kind). sameOf l kind.AddedCustomer) k),
         no-customers v (λ (x : Amounts). x .settled) r fresh,
         no-customers v (λ (x : Amounts). x .paidOut) r fresh,
       )
@@ -302,7 +302,7 @@ module _ {h : History} (v : Valid h) (r : Raw) (j : judge h r ≡ 0) where
 
   divided-expired : (e : Raw) → kindOf (r .kind) ≡ kind.Expiry → names r e ≡ true → fate h e .closed ≡ false → Divided h e → Divided (r ∷ h) e
   divided-expired e k n o l =
-      rw (fate-hit r h e n, customers-other (λ (x : Amounts). x .settled) r h e (ap (λ (l : Kind). is l kind.AddedCustomer) k), customers-other (λ (x : Amounts). x .paidOut) r h e (ap (λ (l : Kind). is l kind.AddedCustomer) k), k)
+      rw (fate-hit r h e n, customers-other (λ (x : Amounts). x .settled) r h e (ap (λ (l : Kind). sameOf l kind.AddedCustomer) k), customers-other (λ (x : Amounts). x .paidOut) r h e (ap (λ (l : Kind). sameOf l kind.AddedCustomer) k), k)
       (omega (arith, still-open h e o))
 
   divided-hit : (e : Raw) → In e h → kindOf (e .kind) ≡ kind.Contribution → names r e ≡ true → Divided h e → Sort h r → Divided (r ∷ h) e

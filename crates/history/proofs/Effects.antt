@@ -26,7 +26,7 @@ use Rattle.rules.specs.declared.changes.Found.the-variants.{At, Nothing}
 use Rattle.rules.specs.declared.changes.Change.{Change}
 use Rattle.rules.specs.declared.changes.Outcome.the-variants.{Accepted}
 use Rattle.rules.proofs.Plain.{plain}
-use Rattle.history.specs.History.{lastDay, Fate, posted, refundOf, refunded, expired, restated, Balance, Move, stays, charges, credits, refunds, deposits, returns, retains, moved, Amounts, answered}
+use Rattle.history.specs.History.{Fate, posted, refundOf, change, Balance, Move, stays, charges, credits, refunds, deposits, returns, retains, moved, Amounts, answered}
 use Rattle.history.specs.Agreement.{keptAccount, keptData}
 
 abbrev pub keptAmounts : Amounts → four′.Amounts
@@ -107,7 +107,7 @@ module _ (r : Raw) (b : Balance) (newest : ℕ) (f : Found) (d : Data) where
   unfolding effectOf depositOf holdingOf
   deposit-effect = refl
 
-  pub return-effect : b .deposit ≤ amountMost → b .rate ≤ 2000 → r .day ≤ lastDay →
+  pub return-effect : b .deposit ≤ amountMost → b .rate ≤ 2000 → r .day ≤ 36524 →
       b .deposit + interest (b .deposit) (b .rate) (r .day - b .deposited) ≤ most →
       effectOf r kind.DepositReturn (keptAccount b newest) f d ≡
       Accepted
@@ -125,7 +125,7 @@ module _ (r : Raw) (b : Balance) (newest : ℕ) (f : Found) (d : Data) where
         effectOf r kind.AddedCustomer (keptAccount b newest) (At i) (keptData kind.Contribution e g s p) ≡
         Accepted
         (changeBy (refunds (refundOf r e g)) b newest (keptData kind.AddedCustomer r g′ 0 0) (At i)
-        (keptData kind.Contribution e (refunded (refundOf r e g) g) (settles (refundOf r e g) (b .arrears) + s) (leaves (refundOf r e g) (b .arrears) + p)))
+        (keptData kind.Contribution e (change kind.AddedCustomer r e g) (settles (refundOf r e g) (b .arrears) + s) (leaves (refundOf r e g) (b .arrears) + p)))
     unfolding effectOf addedCustomerOf creditedOf refundedOf namedOf
     added-effect g′ m a n x y =
         let one-more : min (g .added + 1) 65535 ≡ g .added + 1 = min-eq-left (omega arith) in
@@ -136,7 +136,7 @@ module _ (r : Raw) (b : Balance) (newest : ℕ) (f : Found) (d : Data) where
     pub expiry-effect : (g′ : Fate) →
         effectOf r kind.Expiry (keptAccount b newest) (At i) (keptData kind.Contribution e g s p) ≡
         Accepted
-        (changeBy (retains (g .held)) b newest (keptData kind.Expiry r g′ 0 0) (At i) (keptData kind.Contribution e (expired g) s p))
+        (changeBy (retains (g .held)) b newest (keptData kind.Expiry r g′ 0 0) (At i) (keptData kind.Contribution e (change kind.Expiry r e g) s p))
     unfolding effectOf expiryOf expiredOf namedOf
     expiry-effect g′ = refl
 
@@ -144,7 +144,7 @@ module _ (r : Raw) (b : Balance) (newest : ℕ) (f : Found) (d : Data) where
         effectOf r kind.Correction (keptAccount b newest) (At i) (keptData kind.Bill e g s p) ≡
         Accepted
         (changeBy (cond o (charges (r .amount - g .standing)) (credits (g .standing - r .amount))) b newest (keptData kind.Correction r g′ 0 0) (At i)
-        (keptData kind.Bill e (restated (r .amount) g) s p))
+        (keptData kind.Bill e (change kind.Correction r e g) s p))
     unfolding effectOf correctionOf restatedOf namedOf
     bill-corrected g′ true t l m =
         let z : g .standing - r .amount ≡ 0 = omega (arith, leb-true (g .standing) (r .amount) t) in
@@ -163,7 +163,7 @@ module _ (r : Raw) (b : Balance) (newest : ℕ) (f : Found) (d : Data) where
         effectOf r kind.Correction (keptAccount b newest) (At i) (keptData kind.Payment e g s p) ≡
         Accepted
         (changeBy (cond o (charges (g .standing - r .amount)) (credits (r .amount - g .standing))) b newest (keptData kind.Correction r g′ 0 0) (At i)
-        (keptData kind.Payment e (restated (r .amount) g) s p))
+        (keptData kind.Payment e (change kind.Correction r e g) s p))
     unfolding effectOf correctionOf restatedOf namedOf
     payment-corrected g′ true t l m =
         let z : r .amount - g .standing ≡ 0 = omega (arith, leb-true (r .amount) (g .standing) t) in

@@ -21,6 +21,7 @@ lawful h v =
       room = fits v;
       arrears = λ a. omega (arith, fits v, bounded v a .arrears);
       credit = λ a. omega (arith, fits v, bounded v a .credit);
+      deposit = λ a. omega (arith, bounded v a .deposit);
       added = λ e. omega (arith, fits v, added-small h e);
     }
 

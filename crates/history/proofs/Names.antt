@@ -2,16 +2,16 @@
 use mathlib.Core.Path.{_≡_, refl, sym, ap, _∙_, subst}
 use Prim.Native.Nat.{ℕ, _+_, _≤_, _<_}
 use native.Mathlib.Omega.{arith}
-use mathlib.Core.Bool.{Bool, true, false, cond, not, _&&_, true≢false, and-false}
+use mathlib.Core.Bool.{Bool, true, false, cond, _&&_, true≢false, and-false}
 use mathlib.Core.List.{[], _∷_}
 use lib.ListN.{length}
 use lib.Dec.{eqb}
 use borrow.Author.Tests.{eqb-true, eq-eqb}
-use Rattle.entries.specs.Kinds.{kindOf}
+use Rattle.entries.specs.Kinds.{kindOf, sameOf}
 use Rattle.entries.specs.declared.raw.Raw.{Raw}
 use Rattle.entries.specs.declared.kinds.Kind.{Kind}
 use Rattle.entries.specs.declared.kinds.Kind.the-variants as kind
-use Rattle.history.specs.History.{period, History, is, lastSerial, naming, points, names, Sought, missing, found, find, Fate, posted, change, fate, Amounts, amounts, judge, ofCustomers}
+use Rattle.history.specs.History.{period, History, lastSerial, naming, points, names, Sought, missing, found, find, Fate, posted, change, fate, Amounts, amounts, judge, ofCustomers}
 use Rattle.history.specs.Laws.{Valid, empty, joins, In, newest, older, Again, Once}
 use Rattle.history.proofs.Accept.{and-left, and-right, accepts, Sort, as-contribution, as-added, as-bill, as-payment, as-deposit, as-return, as-expiry, as-correction, sorted, Role, alone, upon, role}
 
@@ -118,7 +118,7 @@ pub fate-hit : (c : Raw) (h : History) (x : Raw) → names c x ≡ true → fate
 unfolding fate
 fate-hit c h x e = rw e
 
-naming-added : (k : Kind) (t : Bool) → naming k && t ≡ false → is k kind.AddedCustomer && t ≡ false
+naming-added : (k : Kind) (t : Bool) → naming k && t ≡ false → sameOf k kind.AddedCustomer && t ≡ false
 naming-added kind.Unknown t e = refl
 naming-added kind.Contribution t e = refl
 naming-added kind.AddedCustomer t e = e
@@ -138,7 +138,7 @@ pub customers-hit : (f : Amounts → ℕ) (c : Raw) (h : History) (x : Raw) → 
 unfolding ofCustomers
 customers-hit f c h x k p = rw (k, p)
 
-pub customers-other : (f : Amounts → ℕ) (c : Raw) (h : History) (x : Raw) → is (kindOf (c .kind)) kind.AddedCustomer ≡ false →
+pub customers-other : (f : Amounts → ℕ) (c : Raw) (h : History) (x : Raw) → sameOf (kindOf (c .kind)) kind.AddedCustomer ≡ false →
     ofCustomers f (c ∷ h) x ≡ ofCustomers f h x
 unfolding ofCustomers
 customers-other f c h x k = rw k (omega arith)

@@ -29,10 +29,10 @@ use Rattle.queries.specs.Statement.{statementReplyOf, givenOf, statementOf}
 use Rattle.queries.specs.Statement as statements
 use Rattle.queries.specs.Contribution.{contributionReplyOf, figuresOf, contributionQueryOf}
 use Rattle.queries.specs.Contribution as contributions
-use Rattle.history.specs.History.{History, accounts, is, within, points, names, Sought, missing, found, find, Fate, change, fate, entryIn, total, standingBill, standingPayment, heldOf, toArrears, refundsPaid}
+use Rattle.history.specs.History.{History, accounts, points, names, Sought, missing, found, find, Fate, change, fate, entryIn, asking, total, standingAmount, heldOf, toArrears, refundsPaid}
 use Rattle.history.specs.Laws.{Valid, empty, joins}
 use Rattle.history.specs.Agreement.{keptData, dataIn, keptEntry, keptChain, Kept}
-use Rattle.history.specs.Queries.{entriesOf, statementBy, statementTold, asking, contributionBy, contributionTold}
+use Rattle.history.specs.Queries.{entriesOf, statementBy, statementIn, contributionBy, contributionIn}
 use Rattle.history.proofs.Accept.{and-left, and-right, accepts, fits, InRange}
 use Rattle.history.proofs.Bound.{large, standing-small}
 use Rattle.history.proofs.Agree.{agreement}
@@ -130,7 +130,7 @@ read-held kind.Expiry e f s p = refl
 read-held kind.Correction e f s p = refl
 
 read-bill : (k : Kind) (e : Raw) (f : Fate) (s p : ℕ) →
-    cond (sameOf (namedOf (keptData k e f s p) .kind) kind.Bill) (namedOf (keptData k e f s p) .standing .0) 0 ≡ standingBill k e f
+    cond (sameOf (namedOf (keptData k e f s p) .kind) kind.Bill) (namedOf (keptData k e f s p) .standing .0) 0 ≡ standingAmount kind.Bill k e f
 unfolding namedOf
 read-bill kind.Unknown e f s p = refl
 read-bill kind.Contribution e f s p = refl
@@ -143,7 +143,7 @@ read-bill kind.Expiry e f s p = refl
 read-bill kind.Correction e f s p = refl
 
 read-payment : (k : Kind) (e : Raw) (f : Fate) (s p : ℕ) →
-    cond (sameOf (namedOf (keptData k e f s p) .kind) kind.Payment) (namedOf (keptData k e f s p) .standing .0) 0 ≡ standingPayment k e f
+    cond (sameOf (namedOf (keptData k e f s p) .kind) kind.Payment) (namedOf (keptData k e f s p) .standing .0) 0 ≡ standingAmount kind.Payment k e f
 unfolding namedOf
 read-payment kind.Unknown e f s p = refl
 read-payment kind.Contribution e f s p = refl
@@ -160,11 +160,11 @@ module _ (all : History) where
   unfolding chains.heldOf entryOf
   held-read h e = read-held (kindOf (e .kind)) e (fate all e) _ _
 
-  bill-read : (h : History) (e : Raw) → standingOf kind.Bill (keptEntry all h e) ≡ standingBill (kindOf (e .kind)) e (fate all e)
+  bill-read : (h : History) (e : Raw) → standingOf kind.Bill (keptEntry all h e) ≡ standingAmount kind.Bill (kindOf (e .kind)) e (fate all e)
   unfolding standingOf entryOf
   bill-read h e = read-bill (kindOf (e .kind)) e (fate all e) _ _
 
-  payment-read : (h : History) (e : Raw) → standingOf kind.Payment (keptEntry all h e) ≡ standingPayment (kindOf (e .kind)) e (fate all e)
+  payment-read : (h : History) (e : Raw) → standingOf kind.Payment (keptEntry all h e) ≡ standingAmount kind.Payment (kindOf (e .kind)) e (fate all e)
   unfolding standingOf entryOf
   payment-read h e = read-payment (kindOf (e .kind)) e (fate all e) _ _
 
@@ -176,28 +176,28 @@ module _ {b : Book} {h : History} (w : Kept b h) where
   held-fits : (a : ℕ) → min (totalOf chains.heldOf (keptChain h h a)) most ≡ total heldOf h h a
   held-fits a =
       rw (chain-total chains.heldOf heldOf h a (held-read h) h)
-      (fitting _ (omega (arith, fits (w .valid), total-small heldOf h a (λ e s. some-small (is (kindOf (e .kind)) kind.Contribution) (fate h e .held) (omega (arith, held-small h e, s .amount))) (w .valid))))
+      (fitting _ (omega (arith, fits (w .valid), total-small heldOf h a (λ e s. some-small (sameOf (kindOf (e .kind)) kind.Contribution) (fate h e .held) (omega (arith, held-small h e, s .amount))) (w .valid))))
 
-  bills-fit : (a n : ℕ) → min (totalOf (standingOf kind.Bill) (take n (keptChain h h a))) most ≡ total standingBill h (take n (entriesOf h a)) a
+  bills-fit : (a n : ℕ) → min (totalOf (standingOf kind.Bill) (take n (keptChain h h a))) most ≡ total (standingAmount kind.Bill) h (take n (entriesOf h a)) a
   bills-fit a n =
-      rw (chain-taken (standingOf kind.Bill) standingBill h a (bill-read h) h n)
-      (fitting _ (omega (arith, fits (w .valid), taken-small standingBill h a (λ e s. some-small (is (kindOf (e .kind)) kind.Bill) (fate h e .standing) (standing-small (w .valid) e s)) (w .valid) n)))
+      rw (chain-taken (standingOf kind.Bill) (standingAmount kind.Bill) h a (bill-read h) h n)
+      (fitting _ (omega (arith, fits (w .valid), taken-small (standingAmount kind.Bill) h a (λ e s. some-small (sameOf (kindOf (e .kind)) kind.Bill) (fate h e .standing) (standing-small (w .valid) e s)) (w .valid) n)))
 
-  payments-fit : (a n : ℕ) → min (totalOf (standingOf kind.Payment) (take n (keptChain h h a))) most ≡ total standingPayment h (take n (entriesOf h a)) a
+  payments-fit : (a n : ℕ) → min (totalOf (standingOf kind.Payment) (take n (keptChain h h a))) most ≡ total (standingAmount kind.Payment) h (take n (entriesOf h a)) a
   payments-fit a n =
-      rw (chain-taken (standingOf kind.Payment) standingPayment h a (payment-read h) h n)
-      (fitting _ (omega (arith, fits (w .valid), taken-small standingPayment h a (λ e s. some-small (is (kindOf (e .kind)) kind.Payment) (fate h e .standing) (standing-small (w .valid) e s)) (w .valid) n)))
+      rw (chain-taken (standingOf kind.Payment) (standingAmount kind.Payment) h a (payment-read h) h n)
+      (fitting _ (omega (arith, fits (w .valid), taken-small (standingAmount kind.Payment) h a (λ e s. some-small (sameOf (kindOf (e .kind)) kind.Payment) (fate h e .standing) (standing-small (w .valid) e s)) (w .valid) n)))
 
   given-same : (a n : ℕ) → 1 ≤ a → a ≤ accounts → givenOf (accountAt b a) (chainAt b a) n ≡ statementBy 0 h a n
   unfolding givenOf
   given-same a n l m =
       rw (agreement .chain b h w a l m, w .agrees .account a l m, held-fits a, bills-fit a n, payments-fit a n, chain-length h h a) refl
 
-  pub statement-same : (a n : ℕ) → statementOf b a n ≡ statementTold h a n
-  unfolding statementOf statementTold statements.decidedOf ruleOf between statementReplyOf
-  statement-same a n = go (within a 1 accounts) refl
+  pub statement-same : (a n : ℕ) → statementOf b a n ≡ statementIn h a n
+  unfolding statementOf statementIn statements.decidedOf ruleOf between statementReplyOf
+  statement-same a n = go (between a 1 accounts) refl
     where
-      go : (t : Bool) → within a 1 accounts ≡ t →
+      go : (t : Bool) → between a 1 accounts ≡ t →
           statements.decidedOf (ruleOf check.Passed (not t) no.UnknownAccount) (givenOf (accountAt b a) (chainAt b a) n) ≡ statementBy (cond (not t) 3 0) h a n
       go true e = given-same a n (leb-true 1 a (and-left (leb 1 a) _ e)) (leb-true a accounts (and-right (leb 1 a) _ e))
       go false e = refl
@@ -221,7 +221,7 @@ sought-same all (r ∷ h) a node serial = go (sought-same all h a node serial) (
 
 module _ (all : History) where
   figures-of : (l : Kind) (e : Raw) →
-      figuresOf (keptData l e (fate all e) (toArrears all e) (refundsPaid all e)) ≡ contributionBy (cond (not (is l kind.Contribution)) 8 0) all e
+      figuresOf (keptData l e (fate all e) (toArrears all e) (refundsPaid all e)) ≡ contributionBy (cond (not (sameOf l kind.Contribution)) 8 0) all e
   unfolding figuresOf contributionReplyOf
   figures-of kind.Unknown e = refl
   figures-of kind.Contribution e = refl
@@ -233,20 +233,20 @@ module _ (all : History) where
   figures-of kind.Expiry e = refl
   figures-of kind.Correction e = refl
 
-  figures-found : (s : Sought) → figuresOf (dataFound all s) ≡ contributionBy (cond (not (is (kindOf (entryIn s .kind)) kind.Contribution)) 8 0) all (entryIn s)
+  figures-found : (s : Sought) → figuresOf (dataFound all s) ≡ contributionBy (cond (not (sameOf (kindOf (entryIn s .kind)) kind.Contribution)) 8 0) all (entryIn s)
   unfolding figuresOf contributionReplyOf kindOf
   figures-found missing = refl
   figures-found (found i e) = figures-of (kindOf (e .kind)) e
 
 module _ {b : Book} {h : History} (w : Kept b h) where
-  pub contribution-same : (a node serial : ℕ) → contributionQueryOf b a node serial ≡ contributionTold h a node serial
-  unfolding contributionQueryOf contributionTold contributions.decidedOf ruleOf between contributionReplyOf
-  contribution-same a node serial = go (within node 1 2) (within a 1 accounts) refl
+  pub contribution-same : (a node serial : ℕ) → contributionQueryOf b a node serial ≡ contributionIn h a node serial
+  unfolding contributionQueryOf contributionIn contributions.decidedOf ruleOf between contributionReplyOf
+  contribution-same a node serial = go (between node 1 2) (between a 1 accounts) refl
     where
-      go : (t u : Bool) → within a 1 accounts ≡ u →
+      go : (t u : Bool) → between a 1 accounts ≡ u →
           contributions.decidedOf (ruleOf (ruleOf check.Passed (not t) no.UnknownNode) (not u) no.UnknownAccount) (figuresOf (soughtOf node serial (chainAt b a) .«data»)) ≡
           contributionBy
-          (cond (not t) 2 (cond (not u) 3 (cond (not (is (kindOf (entryIn (find h (asking a node serial)) .kind)) kind.Contribution)) 8 0)))
+          (cond (not t) 2 (cond (not u) 3 (cond (not (sameOf (kindOf (entryIn (find h (asking a node serial)) .kind)) kind.Contribution)) 8 0)))
           h (entryIn (find h (asking a node serial)))
       go true true e =
           rw (agreement .chain b h w a (leb-true 1 a (and-left (leb 1 a) _ e)) (leb-true a accounts (and-right (leb 1 a) _ e)), sought-same h h a node serial)

@@ -8,6 +8,7 @@ use lib.ListN.{length, getD, take}
 use lib.Dec.{eqb, leb}
 use borrow.Author.Tests.{eqb-true, eqb-false, ne-eqb, le-ltb, leb-true}
 use Rattle.entries.specs.Kinds.{kindOf, namesOf}
+use Rattle.entries.specs.Ranges.{between}
 use Rattle.entries.specs.Entries.{noEntry, entryOf, pointsAt, namedOf}
 use Rattle.entries.specs.declared.raw.Raw.{Raw}
 use Rattle.entries.specs.declared.kinds.Kind.{Kind}
@@ -21,7 +22,7 @@ use Rattle.book.specs.Posting.{lookupOf, namedAt}
 use Rattle.book.specs.declared.Book.{Book}
 use Rattle.book.proofs.Chain.{findIn-none, findIn-ends, findIn-hit, findIn-miss}
 use Rattle.queries.specs.Chain.{chainOf}
-use Rattle.history.specs.History.{History, accounts, entries, is, within, lastSerial, naming, points, Sought, missing, found, find, named, Fate, posted, fate, noRaw, entryIn, fateIn}
+use Rattle.history.specs.History.{History, accounts, entries, lastSerial, naming, points, Sought, missing, found, find, named, Fate, posted, fate, asking, entryIn, fateIn}
 use Rattle.history.specs.Agreement.{newestOf, keptData, keptEntry, keptChain, Rows, start, more, Agrees}
 use Rattle.history.proofs.Accept.{and-left, and-right}
 use Rattle.history.proofs.Tables.{Seen}
@@ -158,7 +159,7 @@ pub record Alike (e : Entry) (x : Raw) (f : Fate) : Type 0 where
   pub on : e .day .0 ≡ x .day
   pub seen : Seen (namedOf (e .«data»)) (kindOf (x .kind)) x f
 
-alike-none : Alike noEntry noRaw (posted noRaw)
+alike-none : Alike noEntry (asking 0 0 0) (posted (asking 0 0 0))
 unfolding namedOf
 alike-none =
     record {
@@ -171,8 +172,8 @@ unfolding entryOf
 alike-kept all g x = record { on = refl; seen = seen-data (kindOf (x .kind)) x (fate all x) _ _ }
 
 module _ {b : Book} {h : History} (w : Agrees b h) (m : length h ≤ entries) where
-  pub lookup-same : (r : Raw) → within (r .account) 1 accounts ≡ true → lookupOf b r ≡ placeOf (named h r)
-  unfolding lookupOf named startOf
+  pub lookup-same : (r : Raw) → between (r .account) 1 accounts ≡ true → lookupOf b r ≡ placeOf (named h r)
+  unfolding lookupOf named startOf between
   lookup-same r t =
       rw (w .account (r .account) (leb-true _ _ (and-left (leb 1 (r .account)) _ t)) (leb-true _ _ (and-right (leb 1 (r .account)) _ t)), names-same (kindOf (r .kind)))
       (go (naming (kindOf (r .kind))))
@@ -186,7 +187,7 @@ module _ {b : Book} {h : History} (w : Agrees b h) (m : length h ≤ entries) wh
   alike-at c missing f = alike-none
   alike-at c (found i e) f = let k = kept-found h (b .entries) (w .rows) c i e f in rw (k .1) (alike-kept h (k .0) e)
 
-  pub alike : (r : Raw) → within (r .account) 1 accounts ≡ true → Alike (namedAt b r) (entryIn (named h r)) (fateIn h (named h r))
+  pub alike : (r : Raw) → between (r .account) 1 accounts ≡ true → Alike (namedAt b r) (entryIn (named h r)) (fateIn h (named h r))
   unfolding named entryAt
   alike r t = rw (lookup-same r t) (go (naming (kindOf (r .kind))))
     where
@@ -194,8 +195,8 @@ module _ {b : Book} {h : History} (w : Agrees b h) (m : length h ≤ entries) wh
       go true = alike-at r (find h r) refl
       go false = alike-none
 
-  pub last-same : (r : Raw) → within (r .node) 1 2 ≡ true → lastOf (b .last) (r .node) ≡ lastSerial h (r .node)
-  unfolding lastOf
+  pub last-same : (r : Raw) → between (r .node) 1 2 ≡ true → lastOf (b .last) (r .node) ≡ lastSerial h (r .node)
+  unfolding lastOf between
   last-same r t = go (eqb (r .node) 1) refl
     where
       go : (u : Bool) → eqb (r .node) 1 ≡ u → cond u (b .last .«node_1») (b .last .«node_2») ≡ lastSerial h (r .node)

@@ -9,7 +9,7 @@ use lib.Dec.{eqb, leb, ltb}
 use borrow.Author.Tests.{ltb-true, ltb-false, leb-true, leb-false, le-leb, lt-leb, lt-ltb, le-ltb, not-false}
 use Rattle.measures.specs.Cents.{cents}
 use Rattle.measures.specs.Days.{day}
-use Rattle.entries.specs.Kinds.{kindOf, misnamesOf}
+use Rattle.entries.specs.Kinds.{kindOf, misnamesOf, sameOf}
 use Rattle.entries.specs.Ranges.{between}
 use Rattle.entries.specs.Refusals.{refusalNumber, ruleOf}
 use Rattle.entries.specs.Refusals as checks
@@ -26,7 +26,7 @@ use Rattle.measures.specs.declared.Day.{Day}
 use Rattle.rules.specs.Checks.{depositClash, stateRows, checkStateOf, refundPeriod}
 use Rattle.rules.specs.declared.accounts.Account.{Account}
 use Rattle.book.specs.Refusals.{entryRows, checkEntryOf}
-use Rattle.history.specs.History.{History, is, naming, suits, period, lastSerial, Fate, Balance, Row, firstOf, within, refusals}
+use Rattle.history.specs.History.{History, naming, suits, period, lastSerial, Fate, Balance, Row, firstOf, refusals}
 use Rattle.history.specs.Agreement.{keptAccount}
 use Rattle.history.proofs.Accept.{is-contribution}
 
@@ -93,7 +93,7 @@ or-false : (t : Bool) → t ≡ (t || false)
 or-false true = refl
 or-false false = refl
 
-clash-same : (k : Kind) (d : ℕ) → depositClash k (cents d) ≡ (is k kind.Deposit && ltb 0 d || is k kind.DepositReturn && eqb d 0)
+clash-same : (k : Kind) (d : ℕ) → depositClash k (cents d) ≡ (sameOf k kind.Deposit && ltb 0 d || sameOf k kind.DepositReturn && eqb d 0)
 clash-same kind.Unknown d = refl
 clash-same kind.Contribution d = refl
 clash-same kind.AddedCustomer d = refl
@@ -109,7 +109,7 @@ before-same true d e = refl
 before-same false d e = refl
 
 added-same : (k l : Kind) (p q : Bool) → (l ≡ kind.Contribution → p ≡ q) → (naming k && not (suits k l)) ≡ false →
-    (is k kind.AddedCustomer && p) ≡ (is k kind.AddedCustomer && q)
+    (sameOf k kind.AddedCustomer && p) ≡ (sameOf k kind.AddedCustomer && q)
 added-same kind.Unknown l p q e s = refl
 added-same kind.Contribution l p q e s = refl
 added-same kind.AddedCustomer l p q e s = e (is-contribution l s)
@@ -123,10 +123,10 @@ added-same kind.Correction l p q e s = refl
 -- what the rules read of a named entry is what the history says of it
 pub record Seen (n : Named) (l : Kind) (x : Raw) (f : Fate) : Type 0 where
   pub of-kind : n .kind ≡ l
-  pub closed : n .closed ≡ (is l kind.Contribution && f .closed)
-  pub corrected : n .corrected ≡ ((is l kind.Bill || is l kind.Payment) && f .corrected)
-  pub phases : cond (is l kind.Contribution) (n .phases) 0 ≡ cond (is l kind.Contribution) (x .b) 0
-  pub built : cond (is l kind.Contribution) (n .built .0) 0 ≡ cond (is l kind.Contribution) (x .a) 0
+  pub closed : n .closed ≡ (sameOf l kind.Contribution && f .closed)
+  pub corrected : n .corrected ≡ ((sameOf l kind.Bill || sameOf l kind.Payment) && f .corrected)
+  pub phases : cond (sameOf l kind.Contribution) (n .phases) 0 ≡ cond (sameOf l kind.Contribution) (x .b) 0
+  pub built : cond (sameOf l kind.Contribution) (n .built .0) 0 ≡ cond (sameOf l kind.Contribution) (x .a) 0
 
 module _ (h : History) (r : Raw) (k : Kind) (newest : ℕ) (b : Balance) (e : Entry) (x : Raw) (f : Fate) (on : e .day .0 ≡ x .day) (s : Seen (namedOf (e .«data»)) (kindOf (x .kind)) x f) where
   pub state-same : Same (stateRows r k (keptAccount b newest) e) (drop 7 (refusals h r k x f b))
@@ -137,16 +137,16 @@ module _ (h : History) (r : Raw) (k : Kind) (newest : ℕ) (b : Balance) (e : En
       clash-same k (b .deposit),
       refl,
       λ t. (
-        ap (λ n. ltb (r .day) n) (before-same (is k kind.DepositReturn) (day (b .deposited)) (e .day) ∙ ap (λ n. cond (is k kind.DepositReturn) (b .deposited) n) on),
+        ap (λ n. ltb (r .day) n) (before-same (sameOf k kind.DepositReturn) (day (b .deposited)) (e .day) ∙ ap (λ n. cond (sameOf k kind.DepositReturn) (b .deposited) n) on),
         refl,
         λ t. (
           s .closed,
           refl,
           λ t. (
-            ap (λ q. is k kind.AddedCustomer && q) (age-over (r .day) (e .day .0) ∙ ap (λ n. leb (n + period) (r .day)) on),
+            ap (λ q. sameOf k kind.AddedCustomer && q) (age-over (r .day) (e .day .0) ∙ ap (λ n. leb (n + period) (r .day)) on),
             refl,
             λ t. (
-              ap (λ q. is k kind.Expiry && q) (age-below (r .day) (e .day .0) ∙ ap (λ n. ltb (r .day) (n + period)) on),
+              ap (λ q. sameOf k kind.Expiry && q) (age-below (r .day) (e .day .0) ∙ ap (λ n. ltb (r .day) (n + period)) on),
               refl,
               λ t. (
                 added-same k (kindOf (x .kind)) _ _ (λ l. ap (λ n. eqb (r .b) 1 && eqb n 3) (rw l at (s .phases))) suited,
@@ -167,10 +167,9 @@ module _ (h : History) (r : Raw) (k : Kind) (newest : ℕ) (b : Balance) (e : En
 
 -- the two tables as a whole
 module _ (h : History) (r : Raw) (k : Kind) (count last : ℕ) (acc : Account) (e : Entry) (x : Raw) (f : Fate) (b : Balance) (counted : count ≡ length h)
-    (lasts : within (r .node) 1 2 ≡ true → last ≡ lastSerial h (r .node))
-    (state : within (r .account) 1 128 ≡ true → Same (stateRows r k acc e) (drop 7 (refusals h r k x f b))) where
+    (lasts : between (r .node) 1 2 ≡ true → last ≡ lastSerial h (r .node))
+    (state : between (r .account) 1 128 ≡ true → Same (stateRows r k acc e) (drop 7 (refusals h r k x f b))) where
   all-same : Same (entryRows r k count last ++ stateRows r k acc e) (refusals h r k x f b)
-  unfolding between
   all-same = (
     refl,
     refl,

@@ -1,6 +1,6 @@
 -- A list of calls leaves the book that the postings of its entries leave, so the round trips of postings are those of calls.
 use Prim.Native.Nat.{ℕ, zero, suc, _*_, _≤_}
-use mathlib.Core.Path.{_≡_, refl, sym, ap, _∙_}
+use mathlib.Core.Path.{_≡_, refl, ap, _∙_}
 use mathlib.Core.Bool.{Bool, true, false, cond}
 use mathlib.Core.List.{List, [], _∷_, _++_, map}
 use native.Mathlib.Omega.{arith}
@@ -15,14 +15,13 @@ use Rattle.codec.proofs.Layouts.{fit-unpack}
 use Rattle.codec.proofs.Headers.{checked}
 use Rattle.book.specs.Fresh.{freshBook}
 use Rattle.book.specs.declared.Book.{Book}
-use Rattle.image.specs.Saves.{imageOf}
-use Rattle.image.specs.Loads.{loadOf, wholeOf, recordsIn}
+use Rattle.image.specs.Loads.{loadOf, recordsIn}
 use Rattle.image.specs.Rounds.{postedAll, Typed, AllTyped, rawIn}
 use Rattle.image.proofs.Trips.{load-checked, trips}
 use Rattle.history.specs.History.{tooShort}
 use Rattle.history.specs.Carry.{postsOf, carryBookOf}
 use Rattle.history.specs.Calls.{Call, posting, carryOver, statement, contribution, save}
-use Rattle.history.specs.Claim.{callBook, bookAfter, bookOf}
+use Rattle.history.specs.Claim.{callBook, bookAfter}
 use Rattle.history.specs.Trips.{offeredBy, offered, CallTrips}
 
 posted-append : (b : Book) (rs ts : List Raw) → postedAll (postedAll b rs) ts ≡ postedAll b (rs ++ ts)

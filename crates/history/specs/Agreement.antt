@@ -74,7 +74,7 @@ keptChain all [] account = []
 keptChain all (e ∷ h) account =
     cond (eqb (e .account) account) (keptEntry all h e ∷ keptChain all h account) (keptChain all h account)
 
--- a book and a history that offers have brought to where they are
+-- a book that agrees with a history whose every entry passed the judge
 pub record Kept (b : Book) (h : History) : Type 0 where
   pub agrees : Agrees b h
   pub valid : Valid h

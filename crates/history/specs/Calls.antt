@@ -8,29 +8,24 @@ use Rattle.entries.specs.declared.raw.Raw.{Raw}
 use Rattle.rules.specs.declared.answers.Reply.{Reply}
 use Rattle.queries.specs.declared.statements.StatementReply.{StatementReply}
 use Rattle.queries.specs.declared.contributions.ContributionReply.{ContributionReply}
-use Rattle.history.specs.History.{History, offer, repliedOf, carryNumber, carryOffers, carryVerdicts}
-use Rattle.history.specs.Queries.{statementTold, contributionTold}
+use Rattle.history.specs.History.{History, offer, repliedOf, tooShort, carryOffers, carryVerdicts}
+use Rattle.history.specs.Queries.{statementIn, contributionIn}
 
 -- what the calls are given
 pub data Call : Type 0 where
-  -- an entry
   posting : Raw → Call
-  -- entries, and the result list as it is lent
-  carryOver : List Raw → List ℕ → Call
-  -- an account and an allowance
-  statement : ℕ → ℕ → Call
-  -- an account, a node and a serial
-  contribution : ℕ → ℕ → ℕ → Call
-  -- the buffer as it is lent
-  save : List ℕ → Call
+  carryOver : List Raw → List ℕ → Call  -- the entries, and the result list as it is lent
+  statement : ℕ → ℕ → Call  -- account, allowance
+  contribution : ℕ → ℕ → ℕ → Call  -- account, node, serial
+  save : List ℕ → Call  -- the buffer as it is lent
 
--- what they answer: in a carry-over the refusal number and the result list after it, in a save the refusal number and the length
+-- what they answer
 pub data Answer : Type 0 where
   posted : Reply → Answer
-  carried : ℕ → List ℕ → Answer
+  carried : ℕ → List ℕ → Answer  -- the refusal number, and the result list after it
   stated : StatementReply → Answer
   given : ContributionReply → Answer
-  saved : ℕ → ℕ → Answer
+  saved : ℕ → ℕ → Answer  -- the refusal number, and the length
 
 -- a posting offers the history one entry, a carry-over that isn't itself refused each of its entries in turn; other calls add nothing
 unfoldable pub callOffers : History → Call → History
@@ -41,24 +36,24 @@ callOffers h (contribution account node serial) = h
 callOffers h (save buffer) = h
 
 -- a save writes 24 × (entries + 1) bytes; 21: its buffer is shorter
-unfoldable pub saveTold : History → List ℕ → Answer
-saveTold h buffer = let bytes = 24 * (length h + 1) in cond (ltb (length buffer) bytes) (saved 21 0) (saved 0 bytes)
+unfoldable pub saveIn : History → List ℕ → Answer
+saveIn h buffer = let bytes = 24 * (length h + 1) in cond (ltb (length buffer) bytes) (saved 21 0) (saved 0 bytes)
 
-unfoldable pub told : History → Call → Answer
-told h (posting r) = posted (repliedOf h r)
-told h (carryOver rs results) = carried (carryNumber rs results) (carryVerdicts h rs results)
-told h (statement account allowance) = stated (statementTold h account allowance)
-told h (contribution account node serial) = given (contributionTold h account node serial)
-told h (save buffer) = saveTold h buffer
+unfoldable pub answerIn : History → Call → Answer
+answerIn h (posting r) = posted (repliedOf h r)
+answerIn h (carryOver rs results) = carried (cond (tooShort rs results) 22 0) (carryVerdicts h rs results)
+answerIn h (statement account allowance) = stated (statementIn h account allowance)
+answerIn h (contribution account node serial) = given (contributionIn h account node serial)
+answerIn h (save buffer) = saveIn h buffer
 
--- the history after a list of calls, and what it says of each call at its point
+-- the history after a list of calls, and its answer to each at its point
 unfoldable pub historyAfter : History → List Call → History
 historyAfter h [] = h
 historyAfter h (c ∷ cs) = historyAfter (callOffers h c) cs
 
-unfoldable pub toldAll : History → List Call → List Answer
-toldAll h [] = []
-toldAll h (c ∷ cs) = told h c ∷ toldAll (callOffers h c) cs
+unfoldable pub answersIn : History → List Call → List Answer
+answersIn h [] = []
+answersIn h (c ∷ cs) = answerIn h c ∷ answersIn (callOffers h c) cs
 
 -- it begins empty
 abbrev pub historyOf : List Call → History

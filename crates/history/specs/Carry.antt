@@ -8,7 +8,7 @@ use lib.Dec.{ltb}
 use Rattle.entries.specs.declared.raw.Raw.{Raw}
 use Rattle.book.specs.Posting.{postOf}
 use Rattle.book.specs.declared.Book.{Book}
-use Rattle.history.specs.History.{History, carryNumber, carryOffers, carryVerdicts}
+use Rattle.history.specs.History.{History, tooShort, carryOffers, carryVerdicts}
 use Rattle.history.specs.Agreement.{Kept}
 
 -- the book after each entry is posted in turn, and their refusal numbers
@@ -36,6 +36,6 @@ carryResultsOf b rs results = cond (shortOf rs results) results (refusalsOf b rs
 
 -- proofs/Carry.antt shows it
 pub record CarryAgreement : Type 0 where
-  pub refused : (rs : List Raw) (results : List ℕ) → carryRefusalOf rs results ≡ carryNumber rs results
+  pub refused : (rs : List Raw) (results : List ℕ) → carryRefusalOf rs results ≡ cond (tooShort rs results) 22 0
   pub results : (b : Book) (h : History) → Kept b h → (rs : List Raw) (results : List ℕ) → carryResultsOf b rs results ≡ carryVerdicts h rs results
   pub carried : (b : Book) (h : History) → Kept b h → (rs : List Raw) (results : List ℕ) → Kept (carryBookOf b rs results) (carryOffers h rs results)

@@ -14,7 +14,7 @@ use Rattle.history.specs.History.{accounts, balance, total, heldOf}
 use Rattle.history.specs.Laws.{Lawful}
 use Rattle.history.specs.Agreement.{Kept}
 use Rattle.history.specs.Carry.{carryRefusalOf, carryBookOf, carryResultsOf}
-use Rattle.history.specs.Calls.{Call, posting, carryOver, statement, contribution, save, Answer, posted, carried, stated, given, saved, toldAll, historyOf}
+use Rattle.history.specs.Calls.{Call, posting, carryOver, statement, contribution, save, Answer, posted, carried, stated, given, saved, answersIn, historyOf}
 
 -- the calls on a book: the next book, and the answer
 unfoldable pub callBook : Book → Call → Book
@@ -44,16 +44,18 @@ abbrev pub bookOf : List Call → Book
 bookOf cs = bookAfter freshBook cs
 
 pub record Right (cs : List Call) : Type 0 where
-  -- every answer is what the history says at that point: refusals, the four amounts, statements, contribution queries, saves
-  pub answered : answers freshBook cs ≡ toldAll [] cs
-  -- the book after the list has the history's arrears, credit and amounts held
+  -- Every answer in the list is the history's at that point: an offered entry's refusal number is 0 exactly when it joins; which
+  -- calls are refused, which statements are complete and an accepted posting's four amounts; and what every accepted statement,
+  -- contribution query and save gives.
+  pub answered : answers freshBook cs ≡ answersIn [] cs
+  -- the book after the list has the history's arrears, credit and amounts held, of deposits and of contributions
   pub arrears : (a : ℕ) → 1 ≤ a → a ≤ accounts → accountAt (bookOf cs) a .arrears .0 ≡ balance (historyOf cs) a .arrears
   pub credit : (a : ℕ) → 1 ≤ a → a ≤ accounts → accountAt (bookOf cs) a .credit .0 ≡ balance (historyOf cs) a .credit
   pub deposit : (a : ℕ) → 1 ≤ a → a ≤ accounts → accountAt (bookOf cs) a .deposit .0 ≡ balance (historyOf cs) a .deposit
   pub held : (a : ℕ) → 1 ≤ a → a ≤ accounts → totalOf chains.heldOf (chainAt (bookOf cs) a) ≡ total heldOf (historyOf cs) (historyOf cs) a
-  -- and so in every part
+  -- it keeps the history's entries, chains and last serials too
   pub kept : Kept (bookOf cs) (historyOf cs)
-  -- the sums hold
+  -- the history's sums, and no two corrections on one account that name the same entry
   pub lawful : Lawful (historyOf cs)
 
 -- proofs/Claim.antt shows it

@@ -5,13 +5,14 @@ use mathlib.Core.Bool.{Bool, true, false, cond, not, _&&_, _||_}
 use mathlib.Core.List.{List, [], _∷_, _++_}
 use lib.ListN.{length, drop}
 use lib.Dec.{eqb, leb, ltb}
-use Rattle.entries.specs.Kinds.{numberOf, kindOf}
-use Rattle.entries.specs.Ranges.{inRangeOf}
+use Rattle.entries.specs.Kinds.{kindOf, sameOf}
+use Rattle.entries.specs.Ranges.{between, inRangeOf}
 use Rattle.entries.specs.declared.raw.Raw.{Raw}
 use Rattle.entries.specs.declared.kinds.Kind.{Kind}
 use Rattle.entries.specs.declared.kinds.Kind.the-variants as kind
 use Rattle.rules.specs.Formulas.{billed, refund, interest}
 use Rattle.rules.specs.Moves.{settles, leaves, covers, owes}
+use Rattle.rules.specs.Answers.{reply}
 use Rattle.rules.specs.declared.answers.Reply.{Reply}
 
 -- 128 accounts and 1,024 entries are facts of every book
@@ -21,34 +22,26 @@ accounts = 128
 abbrev pub entries : ℕ
 entries = 1024
 
--- 2099-12-31
-abbrev pub lastDay : ℕ
-lastDay = 36524
-
 -- the days from a contribution on in which added customers bring refunds
 abbrev pub period : ℕ
 period = 1826
 
--- The list, newest first.
+-- the list, newest first: document 01's end of the list is the head here
 abbrev pub History : Type 0
 History = List Raw
-
-abbrev pub is : Kind → Kind → Bool
-is k l = eqb (numberOf k) (numberOf l)
 
 -- the serial of a node's last entry, 0 where it has none
 unfoldable pub lastSerial : History → ℕ → ℕ
 lastSerial [] node = 0
 lastSerial (r ∷ h) node = cond (eqb (r .node) node) (r .serial) (lastSerial h node)
 
--- THE NAMED ENTRY
 -- the kinds that name an entry
 abbrev pub naming : Kind → Bool
-naming k = is k kind.AddedCustomer || (is k kind.Expiry || is k kind.Correction)
+naming k = sameOf k kind.AddedCustomer || (sameOf k kind.Expiry || sameOf k kind.Correction)
 
 -- an added customer and an expiry name a contribution, a correction a bill or a payment
 abbrev pub suits : Kind → Kind → Bool
-suits k l = cond (is k kind.Correction) (is l kind.Bill || is l kind.Payment) (is l kind.Contribution)
+suits k l = cond (sameOf k kind.Correction) (sameOf l kind.Bill || sameOf l kind.Payment) (sameOf l kind.Contribution)
 
 -- e is of c's account, and carries the named node and named serial as its node and serial
 unfoldable pub points : Raw → Raw → Bool
@@ -71,7 +64,7 @@ find (e ∷ h) c = cond (points c e) (found (length h) e) (find h c)
 unfoldable pub named : History → Raw → Sought
 named h c = cond (naming (kindOf (c .kind))) (find h c) missing
 
--- WHAT BECAME OF AN ENTRY
+-- What became of an entry.
 pub record Fate : Type 0 where
   pub held : ℕ
   pub retained : ℕ
@@ -80,103 +73,50 @@ pub record Fate : Type 0 where
   pub standing : ℕ
   pub corrected : Bool
 
--- the standing amount is first the billed amount of a bill, or the amount of a payment
-abbrev pub firstStanding : Kind → Raw → ℕ
-firstStanding k e = cond (is k kind.Bill) (billed (e .amount) (e .b) (e .a)) (e .amount)
+abbrev pub fateOf : ℕ → ℕ → ℕ → Bool → ℕ → Bool → Fate
+fateOf held retained added closed standing corrected =
+    record { held = held; retained = retained; added = added; closed = closed; standing = standing; corrected = corrected }
 
--- 1: held = amount
+-- 1: held = amount; the standing amount is first the billed amount of a bill, or the amount of a payment
 abbrev pub posted : Raw → Fate
-posted e =
-    record {
-      held = e .amount;
-      retained = 0;
-      added = 0;
-      closed = false;
-      standing = firstStanding (kindOf (e .kind)) e;
-      corrected = false;
-    }
+posted e = fateOf (e .amount) 0 0 false (cond (sameOf (kindOf (e .kind)) kind.Bill) (billed (e .amount) (e .b) (e .a)) (e .amount)) false
 
 -- the refund that an added customer c brings to a contribution e
 abbrev pub refundOf : Raw → Raw → Fate → ℕ
 refundOf c e f = refund (f .held) (e .amount) (c .a) (e .a) (f .added)
 
--- 2: held falls by the refund
-abbrev pub refunded : ℕ → Fate → Fate
-refunded x f =
-    record {
-      held = f .held - x;
-      retained = f .retained;
-      added = f .added + 1;
-      closed = f .closed;
-      standing = f .standing;
-      corrected = f .corrected;
-    }
-
--- 7: retained = held; held = 0; the contribution is closed
-abbrev pub expired : Fate → Fate
-expired f =
-    record {
-      held = 0;
-      retained = f .held;
-      added = f .added;
-      closed = true;
-      standing = f .standing;
-      corrected = f .corrected;
-    }
-
--- 8: the standing amount becomes the new one
-abbrev pub restated : ℕ → Fate → Fate
-restated x f =
-    record {
-      held = f .held;
-      retained = f .retained;
-      added = f .added;
-      closed = f .closed;
-      standing = x;
-      corrected = true;
-    }
-
--- what c, of a kind, makes of the entry e that it names
+-- What c, of a kind, makes of the entry e that it names. 2: held falls by the refund. 7: retained = held; held = 0; the
+-- contribution is closed. 8: the standing amount becomes the new one.
 abbrev pub change : Kind → Raw → Raw → Fate → Fate
 change kind.Unknown c e f = f
 change kind.Contribution c e f = f
-change kind.AddedCustomer c e f = refunded (refundOf c e f) f
+change kind.AddedCustomer c e f = fateOf (f .held - refundOf c e f) (f .retained) (f .added + 1) (f .closed) (f .standing) (f .corrected)
 change kind.Bill c e f = f
 change kind.Payment c e f = f
 change kind.Deposit c e f = f
 change kind.DepositReturn c e f = f
-change kind.Expiry c e f = expired f
-change kind.Correction c e f = restated (c .amount) f
+change kind.Expiry c e f = fateOf 0 (f .held) (f .added) true (f .standing) (f .corrected)
+change kind.Correction c e f = fateOf (f .held) (f .retained) (f .added) (f .closed) (c .amount) true
 
 unfoldable pub fate : History → Raw → Fate
 fate [] e = posted e
 fate (c ∷ h) e = cond (names c e) (change (kindOf (c .kind)) c e (fate h e)) (fate h e)
 
--- no entry: what stands for the named entry where there is none
-abbrev pub noRaw : Raw
-noRaw =
-    record {
-      kind = 0;
-      node = 0;
-      account = 0;
-      day = 0;
-      serial = 0;
-      amount = 0;
-      «named_serial» = 0;
-      a = 0;
-      b = 0;
-      «named_node» = 0;
-    }
+-- an entry of which only the account and what it names are set
+abbrev pub asking : ℕ → ℕ → ℕ → Raw
+asking account node serial =
+    record { kind = 0; node = 0; account = account; day = 0; serial = 0; amount = 0; «named_serial» = serial; a = 0; b = 0; «named_node» = node }
 
+-- the entry found and its fate; zeros where there is none
 abbrev pub entryIn : Sought → Raw
-entryIn missing = noRaw
+entryIn missing = asking 0 0 0
 entryIn (found i e) = e
 
 abbrev pub fateIn : History → Sought → Fate
-fateIn h missing = posted noRaw
+fateIn h missing = posted (asking 0 0 0)
 fateIn h (found i e) = fate h e
 
--- AN ACCOUNT'S AMOUNTS, with the rate and the day of the deposit held
+-- An account's amounts, with the rate and the day of the deposit held.
 pub record Balance : Type 0 where
   pub arrears : ℕ
   pub credit : ℕ
@@ -188,15 +128,14 @@ abbrev pub balanceOf : ℕ → ℕ → ℕ → ℕ → ℕ → Balance
 balanceOf arrears credit deposit rate deposited =
     record { arrears = arrears; credit = credit; deposit = deposit; rate = rate; deposited = deposited }
 
--- Posting's moves: a charge; a credit, of which what is left over goes to credit; a refund, a credit of which it is paid out;
--- a deposit with its rate and day; its return with interest, of which what is left over is paid out; what an expiry retains.
+-- Posting's moves, each with its amount.
 pub data Move : Type 0 where
   stays : Move
   charges : ℕ → Move
-  credits : ℕ → Move
-  refunds : ℕ → Move
-  deposits : ℕ → ℕ → ℕ → Move
-  returns : ℕ → Move
+  credits : ℕ → Move  -- what is left over goes to credit
+  refunds : ℕ → Move  -- a credit of which what is left over is paid out
+  deposits : ℕ → ℕ → ℕ → Move  -- with rate and day
+  returns : ℕ → Move  -- the interest; it and the deposit are credited together, and what is left over is paid out
   retains : ℕ → Move
 
 -- what is owed goes from x to y
@@ -215,14 +154,12 @@ moveOf kind.Deposit r b e f = deposits (r .amount) (r .a) (r .day)
 moveOf kind.DepositReturn r b e f = returns (interest (b .deposit) (b .rate) (r .day - b .deposited))
 moveOf kind.Expiry r b e f = retains (f .held)
 moveOf kind.Correction r b e f =
-    cond (is (kindOf (e .kind)) kind.Bill) (restates (f .standing) (r .amount)) (restates (r .amount) (f .standing))
+    cond (sameOf (kindOf (e .kind)) kind.Bill) (restates (f .standing) (r .amount)) (restates (r .amount) (f .standing))
 
 abbrev pub moved : Move → Balance → Balance
 moved stays b = b
-moved (charges x) b =
-    balanceOf (b .arrears + owes x (b .credit)) (b .credit - covers x (b .credit)) (b .deposit) (b .rate) (b .deposited)
-moved (credits x) b =
-    balanceOf (b .arrears - settles x (b .arrears)) (b .credit + leaves x (b .arrears)) (b .deposit) (b .rate) (b .deposited)
+moved (charges x) b = balanceOf (b .arrears + owes x (b .credit)) (b .credit - covers x (b .credit)) (b .deposit) (b .rate) (b .deposited)
+moved (credits x) b = balanceOf (b .arrears - settles x (b .arrears)) (b .credit + leaves x (b .arrears)) (b .deposit) (b .rate) (b .deposited)
 moved (refunds x) b = balanceOf (b .arrears - settles x (b .arrears)) (b .credit) (b .deposit) (b .rate) (b .deposited)
 moved (deposits x rate day) b = balanceOf (b .arrears) (b .credit) x rate day
 moved (returns i) b = balanceOf (b .arrears - settles (b .deposit + i) (b .arrears)) (b .credit) 0 0 0
@@ -234,9 +171,9 @@ moveBy h r b = moveOf (kindOf (r .kind)) r b (entryIn (named h r)) (fateIn h (na
 unfoldable pub balance : History → ℕ → Balance
 balance [] account = balanceOf 0 0 0 0 0
 balance (r ∷ h) account =
-    cond (eqb (r .account) account) (moved (moveBy h r (balance h account)) (balance h account)) (balance h account)
+    let b = balance h account in cond (eqb (r .account) account) (moved (moveBy h r b) b) b
 
--- THE FOUR AMOUNTS OF AN ANSWER
+-- The four amounts of an answer.
 pub record Amounts : Type 0 where
   pub settled : ℕ
   pub paidOut : ℕ
@@ -258,9 +195,9 @@ answered (retains x) b = four 0 0 x 0
 
 -- of an entry that joins a history
 unfoldable pub amounts : History → Raw → Amounts
-amounts h r = answered (moveBy h r (balance h (r .account))) (balance h (r .account))
+amounts h r = let b = balance h (r .account) in answered (moveBy h r b) b
 
--- REFUSED, IN CHECKING ORDER
+-- Refused, in checking order: a rule that is broken or not, and its number.
 pub record Row : Type 0 where
   pub broken : Bool
   pub number : ℕ
@@ -274,37 +211,32 @@ abbrev pub firstOf : List Row → ℕ
 firstOf [] = 0
 firstOf (x ∷ xs) = cond (x .broken) (x .number) (firstOf xs)
 
-abbrev pub within : ℕ → ℕ → ℕ → Bool
-within n low high = leb low n && leb n high
-
 -- e and f are the entry that r names and its fate, b is the balance of r's account
 abbrev pub refusals : History → Raw → Kind → Raw → Fate → Balance → List Row
 refusals h r k e f b =
     let l = kindOf (e .kind) in
-    (is k kind.Unknown ⇒ 1) ∷
-    (not (within (r .node) 1 2) ⇒ 2) ∷
-    (not (within (r .account) 1 accounts) ⇒ 3) ∷
-    (ltb lastDay (r .day) ⇒ 4) ∷
+    (sameOf k kind.Unknown ⇒ 1) ∷
+    (not (between (r .node) 1 2) ⇒ 2) ∷
+    (not (between (r .account) 1 accounts) ⇒ 3) ∷
+    (ltb 36524 (r .day) ⇒ 4) ∷
     (not (inRangeOf r k) ⇒ 5) ∷
     (leb (r .serial) (lastSerial h (r .node)) ⇒ 6) ∷
     (leb entries (length h) ⇒ 7) ∷
     (naming k && not (suits k l) ⇒ 8) ∷
-    (is k kind.Deposit && ltb 0 (b .deposit) || is k kind.DepositReturn && eqb (b .deposit) 0 ⇒ 9) ∷
-    (ltb (r .day) (cond (is k kind.DepositReturn) (b .deposited) (e .day)) ⇒ 10) ∷
-    (is l kind.Contribution && f .closed ⇒ 11) ∷
-    (is k kind.AddedCustomer && leb (e .day + period) (r .day) ⇒ 12) ∷
-    (is k kind.Expiry && ltb (r .day) (e .day + period) ⇒ 13) ∷
-    (is k kind.AddedCustomer && (eqb (r .b) 1 && eqb (e .b) 3) ⇒ 14) ∷
-    (is k kind.AddedCustomer && ltb (e .a) (r .a) ⇒ 15) ∷
-    ((is l kind.Bill || is l kind.Payment) && f .corrected ⇒ 16) ∷
-    []
+    (sameOf k kind.Deposit && ltb 0 (b .deposit) || sameOf k kind.DepositReturn && eqb (b .deposit) 0 ⇒ 9) ∷
+    (ltb (r .day) (cond (sameOf k kind.DepositReturn) (b .deposited) (e .day)) ⇒ 10) ∷
+    (sameOf l kind.Contribution && f .closed ⇒ 11) ∷
+    (sameOf k kind.AddedCustomer && leb (e .day + period) (r .day) ⇒ 12) ∷
+    (sameOf k kind.Expiry && ltb (r .day) (e .day + period) ⇒ 13) ∷
+    (sameOf k kind.AddedCustomer && (eqb (r .b) 1 && eqb (e .b) 3) ⇒ 14) ∷
+    (sameOf k kind.AddedCustomer && ltb (e .a) (r .a) ⇒ 15) ∷
+    ((sameOf l kind.Bill || sameOf l kind.Payment) && f .corrected ⇒ 16) ∷ []
 
 -- the refusal of an offered entry, read against the history so far; 0 where it joins
 unfoldable pub judge : History → Raw → ℕ
 judge h r =
     firstOf (refusals h r (kindOf (r .kind)) (entryIn (named h r)) (fateIn h (named h r)) (balance h (r .account)))
 
--- OFFERS
 -- an entry that a refusal stops adds nothing; every other joins
 abbrev pub joined : ℕ → Raw → History → History
 joined zero r h = r ∷ h
@@ -319,33 +251,20 @@ offers h (r ∷ rs) = offers (offer h r) rs
 
 -- refused: the number and otherwise zeros; accepted: the entry's number and the four amounts
 abbrev pub repliedBy : ℕ → ℕ → Amounts → Reply
-repliedBy zero number x =
-    record {
-      refusal = 0;
-      number = number;
-      settled = x .settled;
-      «paid_out» = x .paidOut;
-      retained = x .retained;
-      interest = x .interest;
-    }
-repliedBy (suc n) number x =
-    record { refusal = suc n; number = 0; settled = 0; «paid_out» = 0; retained = 0; interest = 0 }
+repliedBy zero number x = reply 0 number (x .settled) (x .paidOut) (x .retained) (x .interest)
+repliedBy (suc n) number x = reply (suc n) 0 0 0 0 0
 
 unfoldable pub repliedOf : History → Raw → Reply
 repliedOf h r = repliedBy (judge h r) (length h + 1) (amounts h r)
 
--- CARRY-OVER
--- each entry is offered in turn; its refusal number, or 0, goes to the same place of the result list
+-- in a carry-over each entry is offered in turn; its refusal number, or 0, goes to the same place of the result list
 unfoldable pub verdicts : History → List Raw → List ℕ
 verdicts h [] = []
 verdicts h (r ∷ rs) = judge h r ∷ verdicts (offer h r) rs
 
--- 22: the result list is shorter than the entries, and none is offered
+-- refusal 22: the result list is shorter than the entries; none is offered, and the list is unchanged
 abbrev pub tooShort : List Raw → List ℕ → Bool
 tooShort rs results = ltb (length results) (length rs)
-
-abbrev pub carryNumber : List Raw → List ℕ → ℕ
-carryNumber rs results = cond (tooShort rs results) 22 0
 
 abbrev pub carryOffers : History → List Raw → List ℕ → History
 carryOffers h rs results = cond (tooShort rs results) h (offers h rs)
@@ -354,28 +273,21 @@ carryOffers h rs results = cond (tooShort rs results) h (offers h rs)
 abbrev pub carryVerdicts : History → List Raw → List ℕ → List ℕ
 carryVerdicts h rs results = cond (tooShort rs results) results (verdicts h rs ++ drop (length rs) results)
 
--- SUMS
--- over an account's entries, of what is read off each and its fate in the whole history, `all`
+-- a sum over an account's entries, of what is read off each and its fate in the whole history, `all`
 unfoldable pub total : (Kind → Raw → Fate → ℕ) → History → History → ℕ → ℕ
 total f all [] account = 0
 total f all (r ∷ h) account =
     cond (eqb (r .account) account) (f (kindOf (r .kind)) r (fate all r)) 0 + total f all h account
 
--- contributions and deposits by their amounts, bills and payments by their standing amounts, and what is held of contributions
-abbrev pub contributed : Kind → Raw → Fate → ℕ
-contributed k e f = cond (is k kind.Contribution) (e .amount) 0
+-- contributions and deposits are summed by their amounts, bills and payments at their standing amounts, contributions by what is held
+abbrev pub amountOf : Kind → Kind → Raw → Fate → ℕ
+amountOf l k e f = cond (sameOf k l) (e .amount) 0
 
-abbrev pub deposited : Kind → Raw → Fate → ℕ
-deposited k e f = cond (is k kind.Deposit) (e .amount) 0
-
-abbrev pub standingBill : Kind → Raw → Fate → ℕ
-standingBill k e f = cond (is k kind.Bill) (f .standing) 0
-
-abbrev pub standingPayment : Kind → Raw → Fate → ℕ
-standingPayment k e f = cond (is k kind.Payment) (f .standing) 0
+abbrev pub standingAmount : Kind → Kind → Raw → Fate → ℕ
+standingAmount l k e f = cond (sameOf k l) (f .standing) 0
 
 abbrev pub heldOf : Kind → Raw → Fate → ℕ
-heldOf k e f = cond (is k kind.Contribution) (f .held) 0
+heldOf k e f = cond (sameOf k kind.Contribution) (f .held) 0
 
 -- interest, paid out and retained are added up posting by posting
 unfoldable pub addedUp : (Amounts → ℕ) → History → ℕ → ℕ
@@ -386,7 +298,7 @@ addedUp f (r ∷ h) account = cond (eqb (r .account) account) (f (amounts h r)) 
 unfoldable pub ofCustomers : (Amounts → ℕ) → History → Raw → ℕ
 ofCustomers f [] e = 0
 ofCustomers f (c ∷ h) e =
-    cond (is (kindOf (c .kind)) kind.AddedCustomer && points c e) (f (amounts h c)) 0 + ofCustomers f h e
+    cond (sameOf (kindOf (c .kind)) kind.AddedCustomer && points c e) (f (amounts h c)) 0 + ofCustomers f h e
 
 abbrev pub toArrears : History → Raw → ℕ
 toArrears h e = ofCustomers (λ (x : Amounts). x .settled) h e

@@ -6,8 +6,9 @@ use mathlib.Core.List.{List, [], _∷_}
 use lib.ListN.{length}
 use Rattle.entries.specs.Kinds.{kindOf}
 use Rattle.entries.specs.declared.raw.Raw.{Raw}
+use Rattle.entries.specs.declared.kinds.Kind.{Kind}
 use Rattle.entries.specs.declared.kinds.Kind.the-variants as kind
-use Rattle.history.specs.History.{History, Amounts, entries, period, points, fate, balance, judge, offers, total, contributed, deposited, standingBill, standingPayment, heldOf, addedUp, toArrears, refundsPaid}
+use Rattle.history.specs.History.{History, Fate, Amounts, entries, period, points, fate, balance, judge, offers, total, amountOf, standingAmount, heldOf, addedUp, toArrears, refundsPaid}
 
 -- the histories that offers give: no refusal stopped any entry, read against those before it
 pub data Valid : History → Type 0 where
@@ -23,12 +24,11 @@ pub data In (e : Raw) : History → Type 0 where
 -- bills, paid out, retained, contributions held, deposit held and credit together.
 abbrev pub Conserved : History → ℕ → Type 0
 Conserved h a =
-    total contributed h h a + total standingPayment h h a + total deposited h h a + addedUp (λ (x : Amounts). x .interest) h a +
-    balance h a .arrears
-    ≡ total standingBill h h a + addedUp (λ (x : Amounts). x .paidOut) h a + addedUp (λ (x : Amounts). x .retained) h a +
-    total heldOf h h a +
-    balance h a .deposit +
-    balance h a .credit
+    let b = balance h a in
+    let sum : (Kind → Raw → Fate → ℕ) → ℕ = λ f. total f h h a in
+    let added : (Amounts → ℕ) → ℕ = λ f. addedUp f h a in
+    sum (amountOf kind.Contribution) + sum (standingAmount kind.Payment) + sum (amountOf kind.Deposit) + added (λ x. x .interest) + b .arrears
+    ≡ sum (standingAmount kind.Bill) + added (λ x. x .paidOut) + added (λ x. x .retained) + sum heldOf + b .deposit + b .credit
 
 -- A contribution is refunds to arrears, refunds paid out, what is held and what is retained together.
 abbrev pub Divided : History → Raw → Type 0
@@ -47,16 +47,25 @@ abbrev pub Once : History → Type 0
 Once [] = Unit {0}
 Once (c ∷ h) = ((d : Raw) → In d h → Again c d → ⊥) × Once h
 
+-- more than an account can have: 1,024 entries, none of which moves more than 10^12 cents
+abbrev pub amountBound : ℕ
+amountBound = 1024000000000000
+
 pub record Lawful (h : History) : Type 0 where
+  -- an account's sums over the entries and posting by posting, and its amounts as the last entry leaves them
   pub conserved : (a : ℕ) → Conserved h a
+  -- each contribution's refunds to arrears and paid out, what is held, and its expiry's retained
   pub divided : (e : Raw) → In e h → kindOf (e .kind) ≡ kind.Contribution → Divided h e
-  -- no added customer is dated 1,826 days or more after its contribution
+  -- refunds are the added customers, with their days: none is 1,826 days or more after its contribution
   pub in-period : (c e : Raw) → In c h → In e h → kindOf (c .kind) ≡ kind.AddedCustomer → points c e ≡ true → c .day < e .day + period
+  -- no two corrections on one account name the same entry
   pub once : Once h
-  -- and no number comes near a limit of the book's: entries 1,024, amounts 2^64 - 1, customers added to an entry 65,535
+  -- The book's amounts, statements and queries are these plain numbers (Claim, `kept` and `answered`), which are below the limits
+  -- of its sums, 2^64 - 1 cents and 65,535 customers: so no sum in a book so reached saturates.
   pub room : length h ≤ entries
-  pub arrears : (a : ℕ) → balance h a .arrears ≤ 1024000000000000
-  pub credit : (a : ℕ) → balance h a .credit ≤ 1024000000000000
+  pub arrears : (a : ℕ) → balance h a .arrears ≤ amountBound
+  pub credit : (a : ℕ) → balance h a .credit ≤ amountBound
+  pub deposit : (a : ℕ) → balance h a .deposit ≤ amountBound
   pub added : (e : Raw) → fate h e .added ≤ entries
 
 -- proofs/Lawful.antt shows both
