@@ -6,6 +6,7 @@ use lib.ListN.{length, drop}
 use lib.Dec.{ltb}
 use Rattle.entries.specs.Refusals.{refusalNumber}
 use Rattle.entries.specs.declared.raw.Raw.{Raw}
+use Rattle.entries.specs.declared.refusals.Refusal.the-variants as no
 use Rattle.book.specs.Posting.{postOf}
 use Rattle.book.specs.declared.Book.{Book}
 use Rattle.carry.specs.declared.Carried.{Carried}
@@ -26,7 +27,7 @@ abbrev pub shortOf : List Raw → List ℕ → Bool
 shortOf rs results = ltb (length results) (length rs)
 
 unfoldable pub carryRefusalOf : List Raw → List ℕ → ℕ
-carryRefusalOf rs results = cond (shortOf rs results) 22 0
+carryRefusalOf rs results = cond (shortOf rs results) (refusalNumber no.ResultsShort) 0
 
 unfoldable pub carryBookOf : Book → List Raw → List ℕ → Book
 carryBookOf b rs results = cond (shortOf rs results) b (postsOf b rs)

@@ -9,7 +9,8 @@ use Rattle.book.specs.Posting.{postOf}
 use Rattle.book.specs.declared.Book.{Book}
 use Rattle.history.specs.History.{History, Amounts, judge, offer, offers, repliedBy, repliedOf, verdicts, tooShort}
 use Rattle.history.specs.Agreement.{Kept}
-use Rattle.history.specs.Carry.{postsOf, refusalsOf, carryRefusalOf, carryBookOf, carryResultsOf, CarryAgreement}
+use Rattle.carry.specs.Carry.{postsOf, refusalsOf, carryRefusalOf, carryBookOf, carryResultsOf}
+use Rattle.history.specs.Carry.{CarryAgreement}
 use Rattle.history.proofs.Agree.{agreement}
 
 number-of : (n k : ℕ) (x : Amounts) → repliedBy n k x .refusal ≡ n

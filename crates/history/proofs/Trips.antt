@@ -19,7 +19,7 @@ use Rattle.image.specs.Loads.{loadOf, recordsIn}
 use Rattle.image.specs.Rounds.{postedAll, Typed, AllTyped, rawIn}
 use Rattle.image.proofs.Trips.{load-checked, trips}
 use Rattle.history.specs.History.{tooShort}
-use Rattle.history.specs.Carry.{postsOf, carryBookOf}
+use Rattle.carry.specs.Carry.{postsOf, carryBookOf}
 use Rattle.history.specs.Calls.{Call, posting, carryOver, statement, contribution, save}
 use Rattle.history.specs.Claim.{callBook, bookAfter}
 use Rattle.history.specs.Trips.{offeredBy, offered, CallTrips}

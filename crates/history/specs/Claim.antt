@@ -13,7 +13,7 @@ use Rattle.image.specs.Saves.{saveOf}
 use Rattle.history.specs.History.{accounts, balance, total, heldOf}
 use Rattle.history.specs.Laws.{Lawful}
 use Rattle.history.specs.Agreement.{Kept}
-use Rattle.history.specs.Carry.{carryRefusalOf, carryBookOf, carryResultsOf}
+use Rattle.carry.specs.Carry.{carryRefusalOf, carryBookOf, carryResultsOf}
 use Rattle.history.specs.Calls.{Call, posting, carryOver, statement, contribution, save, Answer, posted, carried, stated, given, saved, answersIn, historyOf}
 
 -- the calls on a book: the next book, and the answer
