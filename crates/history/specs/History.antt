@@ -170,8 +170,7 @@ moveBy h r b = moveOf (kindOf (r .kind)) r b (entryIn (named h r)) (fateIn h (na
 
 unfoldable pub balance : History → ℕ → Balance
 balance [] account = balanceOf 0 0 0 0 0
-balance (r ∷ h) account =
-    let b = balance h account in cond (eqb (r .account) account) (moved (moveBy h r b) b) b
+balance (r ∷ h) account = let b = balance h account in cond (eqb (r .account) account) (moved (moveBy h r b) b) b
 
 -- The four amounts of an answer.
 pub record Amounts : Type 0 where
@@ -181,8 +180,7 @@ pub record Amounts : Type 0 where
   pub interest : ℕ
 
 abbrev pub four : ℕ → ℕ → ℕ → ℕ → Amounts
-four settled paidOut retained interest =
-    record { settled = settled; paidOut = paidOut; retained = retained; interest = interest }
+four settled paidOut retained interest = record { settled = settled; paidOut = paidOut; retained = retained; interest = interest }
 
 abbrev pub answered : Move → Balance → Amounts
 answered stays b = four 0 0 0 0
@@ -234,8 +232,7 @@ refusals h r k e f b =
 
 -- the refusal of an offered entry, read against the history so far; 0 where it joins
 unfoldable pub judge : History → Raw → ℕ
-judge h r =
-    firstOf (refusals h r (kindOf (r .kind)) (entryIn (named h r)) (fateIn h (named h r)) (balance h (r .account)))
+judge h r = firstOf (refusals h r (kindOf (r .kind)) (entryIn (named h r)) (fateIn h (named h r)) (balance h (r .account)))
 
 -- an entry that a refusal stops adds nothing; every other joins
 abbrev pub joined : ℕ → Raw → History → History
@@ -276,8 +273,7 @@ carryVerdicts h rs results = cond (tooShort rs results) results (verdicts h rs +
 -- a sum over an account's entries, of what is read off each and its fate in the whole history, `all`
 unfoldable pub total : (Kind → Raw → Fate → ℕ) → History → History → ℕ → ℕ
 total f all [] account = 0
-total f all (r ∷ h) account =
-    cond (eqb (r .account) account) (f (kindOf (r .kind)) r (fate all r)) 0 + total f all h account
+total f all (r ∷ h) account = cond (eqb (r .account) account) (f (kindOf (r .kind)) r (fate all r)) 0 + total f all h account
 
 -- contributions and deposits are summed by their amounts, bills and payments at their standing amounts, contributions by what is held
 abbrev pub amountOf : Kind → Kind → Raw → Fate → ℕ
@@ -297,8 +293,7 @@ addedUp f (r ∷ h) account = cond (eqb (r .account) account) (f (amounts h r)) 
 -- what the added customers of a contribution e settle are its refunds to arrears, what they leave over its refunds paid out
 unfoldable pub ofCustomers : (Amounts → ℕ) → History → Raw → ℕ
 ofCustomers f [] e = 0
-ofCustomers f (c ∷ h) e =
-    cond (sameOf (kindOf (c .kind)) kind.AddedCustomer && points c e) (f (amounts h c)) 0 + ofCustomers f h e
+ofCustomers f (c ∷ h) e = cond (sameOf (kindOf (c .kind)) kind.AddedCustomer && points c e) (f (amounts h c)) 0 + ofCustomers f h e
 
 abbrev pub toArrears : History → Raw → ℕ
 toArrears h e = ofCustomers (λ (x : Amounts). x .settled) h e
