@@ -14,8 +14,4 @@ pub use changes::Change;
 pub use changes::Found;
 pub use changes::Outcome;
 pub use changes::effect;
-pub use checks::REFUND_PERIOD;
 pub use checks::check_state;
-pub use formulas::billed;
-pub use formulas::interest;
-pub use formulas::refund;
