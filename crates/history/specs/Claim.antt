@@ -48,10 +48,13 @@ pub record Right (cs : List Call) : Type 0 where
   -- calls are refused, which statements are complete and an accepted posting's four amounts; and what every accepted statement,
   -- contribution query and save gives.
   pub answered : answers freshBook cs ≡ answersIn [] cs
-  -- the book after the list has the history's arrears, credit and amounts held, of deposits and of contributions
+  -- the book after the list has the history's arrears
   pub arrears : (a : ℕ) → 1 ≤ a → a ≤ accounts → accountAt (bookOf cs) a .arrears .0 ≡ balance (historyOf cs) a .arrears
+  -- its credit
   pub credit : (a : ℕ) → 1 ≤ a → a ≤ accounts → accountAt (bookOf cs) a .credit .0 ≡ balance (historyOf cs) a .credit
+  -- its amounts held: the deposit
   pub deposit : (a : ℕ) → 1 ≤ a → a ≤ accounts → accountAt (bookOf cs) a .deposit .0 ≡ balance (historyOf cs) a .deposit
+  -- and what is held of the account's contributions
   pub held : (a : ℕ) → 1 ≤ a → a ≤ accounts → totalOf chains.heldOf (chainAt (bookOf cs) a) ≡ total heldOf (historyOf cs) (historyOf cs) a
   -- it keeps the history's entries, chains and last serials too
   pub kept : Kept (bookOf cs) (historyOf cs)

@@ -47,7 +47,7 @@ abbrev pub Once : History → Type 0
 Once [] = Unit {0}
 Once (c ∷ h) = ((d : Raw) → In d h → Again c d → ⊥) × Once h
 
--- more than an account can have: 1,024 entries, none of which moves more than 10^12 cents
+-- a bound on an account's amounts: 1,024 entries, none of which moves more than 10^12 cents
 abbrev pub amountBound : ℕ
 amountBound = 1024000000000000
 
@@ -60,8 +60,8 @@ pub record Lawful (h : History) : Type 0 where
   pub in-period : (c e : Raw) → In c h → In e h → kindOf (c .kind) ≡ kind.AddedCustomer → points c e ≡ true → c .day < e .day + period
   -- no two corrections on one account name the same entry
   pub once : Once h
-  -- The book's amounts, statements and queries are these plain numbers (Claim, `kept` and `answered`), which are below the limits
-  -- of its sums, 2^64 - 1 cents and 65,535 customers: so no sum in a book so reached saturates.
+  -- The book's amounts, statements and queries equal plain sums (Claim, `kept` and `answered`), so no sum in a book so reached
+  -- saturates. Its limits are 1,024 entries, 2^64 - 1 cents and 65,535 customers added to an entry; these are the bounds.
   pub room : length h ≤ entries
   pub arrears : (a : ℕ) → balance h a .arrears ≤ amountBound
   pub credit : (a : ℕ) → balance h a .credit ≤ amountBound
