@@ -7,6 +7,7 @@ use entries::Refusal;
 use entries::both;
 use entries::one_more;
 use entries::within;
+use measures::Day;
 use rules::Account;
 use rules::Answer;
 use rules::Found;
@@ -111,7 +112,7 @@ fn check_entry(raw: Raw, kind: Kind, count: u16, last: u32) -> Check
             !within(raw.account as u32, 1, Book::ACCOUNTS as u32),
             Refusal::UnknownAccount,
         )
-        .rule(36524 < raw.day, Refusal::UnknownDay)
+        .rule(Day::LAST < raw.day, Refusal::UnknownDay)
         .rule(!raw.in_range(kind), Refusal::FieldOutOfRange)
         .rule(raw.serial <= last, Refusal::SerialNotNew)
         .rule(Book::ENTRIES <= count as usize, Refusal::BookFull)

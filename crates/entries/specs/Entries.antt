@@ -34,8 +34,8 @@ unfoldable pub pointsAt : Raw → Entry → Bool
 pointsAt r e = eqb (e .node) (r .«named_node») && eqb (e .serial) (r .«named_serial»)
 
 -- what the rules read of a bill or a payment: the kind, the standing amount, and whether it was corrected
-abbrev pub sumOf : Kind → Cents → Bool → Named
-sumOf k standing corrected =
+abbrev pub correctableOf : Kind → Cents → Bool → Named
+correctableOf k standing corrected =
     record {
       kind = k;
       amount = cents 0;
@@ -50,7 +50,7 @@ sumOf k standing corrected =
 
 -- what they read of an entry that nothing names: the kind
 abbrev pub otherOf : Kind → Named
-otherOf k = sumOf k (cents 0) false
+otherOf k = correctableOf k (cents 0) false
 
 -- what they read of every entry; of a contribution its amount, metres, phases, what is held, the customers added and whether it is closed
 unfoldable pub namedOf : Data → Named
@@ -68,8 +68,8 @@ namedOf (Contribution amount built phases held toArrears paidOut retained added 
       corrected = false;
     }
 namedOf (AddedCustomer node serial shared phases) = otherOf kind.AddedCustomer
-namedOf (Bill charge period served standing corrected) = sumOf kind.Bill standing corrected
-namedOf (Payment amount standing corrected) = sumOf kind.Payment standing corrected
+namedOf (Bill charge period served standing corrected) = correctableOf kind.Bill standing corrected
+namedOf (Payment amount standing corrected) = correctableOf kind.Payment standing corrected
 namedOf (Deposit amount rate) = otherOf kind.Deposit
 namedOf DepositReturn = otherOf kind.DepositReturn
 namedOf (Expiry node serial) = otherOf kind.Expiry

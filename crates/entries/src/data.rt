@@ -4,7 +4,7 @@ use measures::Cents;
 use measures::Day;
 use measures::Metres;
 ghost use mathlib.Core.Path.{_≡_};
-ghost use Rattle.entries.specs.Entries.{noEntry, otherOf, sumOf, oneMore, namedOf, refundedOf, expiredOf, restatedOf, withOf};
+ghost use Rattle.entries.specs.Entries.{noEntry, otherOf, correctableOf, oneMore, namedOf, refundedOf, expiredOf, restatedOf, withOf};
 
 // What was posted and what became of it, by kind. The case is the kind.
 pub enum Data {
@@ -82,12 +82,12 @@ impl Named {
     fn other(kind: Kind) -> Named
         ensures { λ r. ⌜ r ≡ otherOf kind ⌝ }
     {
-        Named::sum(kind, Cents(0), false)
+        Named::correctable(kind, Cents(0), false)
     }
 
     // What the rules read of a bill or a payment.
-    fn sum(kind: Kind, standing: Cents, corrected: bool) -> Named
-        ensures { λ r. ⌜ r ≡ sumOf kind standing corrected ⌝ }
+    fn correctable(kind: Kind, standing: Cents, corrected: bool) -> Named
+        ensures { λ r. ⌜ r ≡ correctableOf kind standing corrected ⌝ }
     {
         Named {
             kind,
@@ -138,12 +138,12 @@ impl Data {
                 standing,
                 corrected,
                 ..
-            } => Named::sum(Kind::Bill, standing, corrected),
+            } => Named::correctable(Kind::Bill, standing, corrected),
             Data::Payment {
                 standing,
                 corrected,
                 ..
-            } => Named::sum(Kind::Payment, standing, corrected),
+            } => Named::correctable(Kind::Payment, standing, corrected),
             Data::AddedCustomer { .. } => Named::other(Kind::AddedCustomer),
             Data::Deposit { .. } => Named::other(Kind::Deposit),
             Data::DepositReturn => Named::other(Kind::DepositReturn),

@@ -85,6 +85,9 @@ impl Cents {
 }
 
 impl Day {
+    // 2099-12-31.
+    pub const LAST: u16 = 36524;
+
     // The days from an earlier day to this one, and 0 where that day is later.
     pub fn since(self, earlier: Day) -> u16
         ensures { λ r. ⌜ r ≡ sinceOf self earlier ⌝ }

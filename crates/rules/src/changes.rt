@@ -92,13 +92,13 @@ fn contribution(raw: Raw, account: Account) -> Change
 }
 
 // 2: the refund is credited; what is left over is paid out.
-fn added_customer(raw: Raw, account: Account, lookup: Found, what: Data) -> Outcome
-    ensures { λ r. ⌜ r ≡ addedCustomerOf raw account lookup what ⌝ }
+fn added_customer(raw: Raw, account: Account, lookup: Found, named_data: Data) -> Outcome
+    ensures { λ r. ⌜ r ≡ addedCustomerOf raw account lookup «named_data» ⌝ }
 {
     let Found::At(i) = lookup else {
         return Outcome::Refused(Refusal::NotOnChain);
     };
-    let back = refund(what.named(), Metres(raw.a));
+    let back = refund(named_data.named(), Metres(raw.a));
     let credited = account.credited(back);
     let after = credited.account;
     Outcome::Accepted(Change {
@@ -110,7 +110,7 @@ fn added_customer(raw: Raw, account: Account, lookup: Found, what: Data) -> Outc
             phases: raw.b,
         },
         names: Found::At(i),
-        named: what.refunded(back, credited.settled, credited.left),
+        named: named_data.refunded(back, credited.settled, credited.left),
         amounts: Amounts::of(credited.settled, credited.left, Cents(0), Cents(0)),
     })
 }
@@ -183,13 +183,13 @@ fn deposit_return(raw: Raw, account: Account) -> Change
 }
 
 // 7: retained = held; held = 0; the contribution is closed.
-fn expiry(raw: Raw, account: Account, lookup: Found, what: Data) -> Outcome
-    ensures { λ r. ⌜ r ≡ expiryOf raw account lookup what ⌝ }
+fn expiry(raw: Raw, account: Account, lookup: Found, named_data: Data) -> Outcome
+    ensures { λ r. ⌜ r ≡ expiryOf raw account lookup «named_data» ⌝ }
 {
     let Found::At(i) = lookup else {
         return Outcome::Refused(Refusal::NotOnChain);
     };
-    let named = what.named();
+    let named = named_data.named();
     Outcome::Accepted(Change {
         account,
         data: Data::Expiry {
@@ -197,7 +197,7 @@ fn expiry(raw: Raw, account: Account, lookup: Found, what: Data) -> Outcome
             named_serial: raw.named_serial,
         },
         names: Found::At(i),
-        named: what.expired(),
+        named: named_data.expired(),
         amounts: Amounts::of(Cents(0), Cents(0), named.held, Cents(0)),
     })
 }
@@ -209,14 +209,14 @@ fn pick(first: bool, a: Cents, b: Cents) -> Cents
 }
 
 // 8: a bill that grows, or a payment that shrinks, charges the difference; the others credit it, what is left over going to credit.
-fn correction(raw: Raw, account: Account, lookup: Found, what: Data) -> Outcome
-    ensures { λ r. ⌜ r ≡ correctionOf raw account lookup what ⌝ }
+fn correction(raw: Raw, account: Account, lookup: Found, named_data: Data) -> Outcome
+    ensures { λ r. ⌜ r ≡ correctionOf raw account lookup «named_data» ⌝ }
 {
     let Found::At(i) = lookup else {
         return Outcome::Refused(Refusal::NotOnChain);
     };
     let amount = raw.cents();
-    let named = what.named();
+    let named = named_data.named();
     let kind = named.kind;
     let bill = kind.is(Kind::Bill);
     let up = amount.minus(named.standing);
@@ -233,24 +233,24 @@ fn correction(raw: Raw, account: Account, lookup: Found, what: Data) -> Outcome
             amount,
         },
         names: Found::At(i),
-        named: what.restated(amount),
+        named: named_data.restated(amount),
         amounts: Amounts::of(credited.settled, Cents(0), Cents(0), Cents(0)),
     })
 }
 
-// What an entry that no check refused does, by its kind. `what` is the named entry's data.
-pub fn effect(raw: Raw, kind: Kind, account: Account, lookup: Found, what: Data) -> Outcome
-    ensures { λ r. ⌜ r ≡ effectOf raw kind account lookup what ⌝ }
+// What an entry that no check refused does, by its kind. `named_data` is the named entry's.
+pub fn effect(raw: Raw, kind: Kind, account: Account, lookup: Found, named_data: Data) -> Outcome
+    ensures { λ r. ⌜ r ≡ effectOf raw kind account lookup «named_data» ⌝ }
 {
     match kind {
         Kind::Unknown => Outcome::Refused(Refusal::UnknownKind),
         Kind::Contribution => Outcome::Accepted(contribution(raw, account)),
-        Kind::AddedCustomer => added_customer(raw, account, lookup, what),
+        Kind::AddedCustomer => added_customer(raw, account, lookup, named_data),
         Kind::Bill => Outcome::Accepted(bill(raw, account)),
         Kind::Payment => Outcome::Accepted(payment(raw, account)),
         Kind::Deposit => Outcome::Accepted(deposit(raw, account)),
         Kind::DepositReturn => Outcome::Accepted(deposit_return(raw, account)),
-        Kind::Expiry => expiry(raw, account, lookup, what),
-        Kind::Correction => correction(raw, account, lookup, what),
+        Kind::Expiry => expiry(raw, account, lookup, named_data),
+        Kind::Correction => correction(raw, account, lookup, named_data),
     }
 }

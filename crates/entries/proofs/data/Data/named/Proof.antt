@@ -10,14 +10,14 @@ enum-known-self c = search needs
 enum-known-self-2 : tie.Need-enum-known-self-2
 enum-known-self-2 c = search needs
 
-sum-requires : tie.Need-sum-requires
-sum-requires c κs = search needs
+correctable-requires : tie.Need-correctable-requires
+correctable-requires c κs = search needs
 
 enum-known-self-3 : tie.Need-enum-known-self-3
 enum-known-self-3 c = search needs
 
-sum-requires-2 : tie.Need-sum-requires-2
-sum-requires-2 c κs = search needs
+correctable-requires-2 : tie.Need-correctable-requires-2
+correctable-requires-2 c κs = search needs
 
 enum-told : tie.Need-enum-told
 enum-told c = search needs
@@ -61,11 +61,11 @@ returns c = rw (c .before .self .given .1) refl
 
 returns-2 : tie.Need-returns-2
 unfolding namedOf
-returns-2 c = rw (c .before .before .self2 .given .1) (c .sum .ensures)
+returns-2 c = rw (c .before .before .self2 .given .1) (c .correctable .ensures)
 
 returns-3 : tie.Need-returns-3
 unfolding namedOf
-returns-3 c = rw (c .before .before .self3 .given .1) (c .sum2 .ensures)
+returns-3 c = rw (c .before .before .self3 .given .1) (c .correctable2 .ensures)
 
 returns-4 : tie.Need-returns-4
 unfolding namedOf
@@ -97,9 +97,9 @@ named-spec =
     (tie.spec
     enum-known-self
     enum-known-self-2
-    sum-requires
+    correctable-requires
     enum-known-self-3
-    sum-requires-2
+    correctable-requires-2
     enum-told
     other-requires
     enum-told-2
