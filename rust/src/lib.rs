@@ -1,0 +1,3 @@
+//! The contribution book of document 01 for Rust hosts.
+
+pub mod plain;

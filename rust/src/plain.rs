@@ -1,0 +1,233 @@
+//! A plain Rust contribution book, written from document 01 alone.
+//!
+//! Amounts are whole cents, days count from 2000-01-01, lengths are whole
+//! metres. A refusal number of 0 means accepted.
+
+mod check;
+mod image;
+mod posting;
+mod query;
+
+pub use query::{ContributionReply, StatementReply};
+
+/// Accounts of every book, numbered from 1.
+pub const ACCOUNTS: usize = 128;
+/// Entries that a full book holds, numbered from 1.
+pub const ENTRIES: usize = 1024;
+/// Bytes of an image's header and of each of its records.
+pub const RECORD: usize = 24;
+
+pub const CONTRIBUTION: u8 = 1;
+pub const ADDED_CUSTOMER: u8 = 2;
+pub const BILL: u8 = 3;
+pub const PAYMENT: u8 = 4;
+pub const DEPOSIT: u8 = 5;
+pub const DEPOSIT_RETURN: u8 = 6;
+pub const EXPIRY: u8 = 7;
+pub const CORRECTION: u8 = 8;
+
+/// An entry as it is offered to the book, its fields unchecked.
+#[derive(Clone, Copy, Debug, Default, PartialEq, Eq)]
+pub struct Raw {
+    pub kind: u8,
+    pub node: u8,
+    pub account: u16,
+    pub day: u16,
+    pub serial: u32,
+    pub amount: u32,
+    pub named_serial: u32,
+    pub a: u16,
+    pub b: u8,
+    pub named_node: u8,
+}
+
+/// The answer to a posting. A refused posting has zeros beside its refusal.
+#[derive(Clone, Copy, Debug, Default, PartialEq, Eq)]
+pub struct Reply {
+    pub refusal: u8,
+    /// The accepted entry's number, from 1.
+    pub number: u16,
+    /// Arrears settled by a credit.
+    pub settled: u64,
+    pub paid_out: u64,
+    pub retained: u64,
+    pub interest: u64,
+}
+
+impl Reply {
+    fn refused(refusal: u8) -> Reply {
+        Reply {
+            refusal,
+            ..Reply::default()
+        }
+    }
+}
+
+/// An accepted entry and what the book keeps for it.
+#[derive(Clone, Copy, Debug, PartialEq, Eq)]
+struct Entry {
+    raw: Raw,
+    /// The number of the account's previous entry; zero ends the chain.
+    next: u16,
+    /// Bill or payment: its standing amount.
+    standing: u64,
+    /// Bill or payment: a correction named it.
+    corrected: bool,
+    /// Contribution: the amount still held.
+    held: u64,
+    /// Contribution: refunds to arrears.
+    to_arrears: u64,
+    /// Contribution: refunds paid out.
+    paid_out: u64,
+    /// Contribution: the amount its expiry retained.
+    retained: u64,
+    /// Contribution: added customers accepted.
+    customers: u16,
+    /// Contribution: an expiry closed it.
+    closed: bool,
+}
+
+impl Entry {
+    const EMPTY: Entry = Entry::new(
+        Raw {
+            kind: 0,
+            node: 0,
+            account: 0,
+            day: 0,
+            serial: 0,
+            amount: 0,
+            named_serial: 0,
+            a: 0,
+            b: 0,
+            named_node: 0,
+        },
+        0,
+    );
+
+    const fn new(raw: Raw, next: u16) -> Entry {
+        Entry {
+            raw,
+            next,
+            standing: 0,
+            corrected: false,
+            held: 0,
+            to_arrears: 0,
+            paid_out: 0,
+            retained: 0,
+            customers: 0,
+            closed: false,
+        }
+    }
+}
+
+/// One account's amounts and the start of its chain.
+#[derive(Clone, Copy, Debug, PartialEq, Eq)]
+struct Account {
+    arrears: u64,
+    credit: u64,
+    /// The deposit held; zero where none is.
+    deposit: u64,
+    /// The held deposit's yearly rate in hundredths of a percent.
+    rate: u16,
+    /// The held deposit's day.
+    deposit_day: u16,
+    /// The number of the account's newest entry; zero where it has none.
+    newest: u16,
+}
+
+impl Account {
+    const EMPTY: Account = Account {
+        arrears: 0,
+        credit: 0,
+        deposit: 0,
+        rate: 0,
+        deposit_day: 0,
+        newest: 0,
+    };
+
+    /// Lowers arrears by up to `amount`; gives what is settled and left over.
+    fn credit(&mut self, amount: u64) -> (u64, u64) {
+        let settled = amount.min(self.arrears);
+        self.arrears -= settled;
+        (settled, amount - settled)
+    }
+
+    /// Lowers credit by up to `amount`; the rest is added to arrears.
+    fn charge(&mut self, amount: u64) {
+        let from_credit = amount.min(self.credit);
+        self.credit -= from_credit;
+        self.arrears += amount - from_credit;
+    }
+}
+
+/// The contribution book.
+#[derive(Clone, Debug, PartialEq, Eq)]
+pub struct Book {
+    accounts: [Account; ACCOUNTS],
+    /// Entry number n is at n - 1; places from `count` on are empty.
+    entries: [Entry; ENTRIES],
+    count: usize,
+    /// Last serial of node 1 and of node 2.
+    last_serials: [u32; 2],
+}
+
+impl Default for Book {
+    fn default() -> Book {
+        Book::fresh()
+    }
+}
+
+impl Book {
+    /// The book with no entries.
+    pub fn fresh() -> Book {
+        Book {
+            accounts: [Account::EMPTY; ACCOUNTS],
+            entries: [Entry::EMPTY; ENTRIES],
+            count: 0,
+            last_serials: [0; 2],
+        }
+    }
+
+    /// The number of entries in the book.
+    pub fn count(&self) -> usize {
+        self.count
+    }
+
+    /// Posts each entry in turn and writes its refusal number, or 0, to the
+    /// same place in `results`. Refused by 22 where `results` is shorter.
+    pub fn carry_over(&mut self, entries: &[Raw], results: &mut [u8]) -> u8 {
+        if results.len() < entries.len() {
+            return 22;
+        }
+        for (raw, result) in entries.iter().zip(results) {
+            *result = self.post(raw).refusal;
+        }
+        0
+    }
+
+    /// The account's chain, newest first, as places in `entries`.
+    fn chain(&self, account: u16) -> impl Iterator<Item = usize> + '_ {
+        let mut number = self.account(account).newest;
+        std::iter::from_fn(move || {
+            let place = usize::from(number).checked_sub(1)?;
+            number = self.entries[place].next;
+            Some(place)
+        })
+    }
+
+    /// The place of the account's entry that carries this node and serial.
+    fn find(&self, account: u16, node: u8, serial: u32) -> Option<usize> {
+        self.chain(account).find(|&place| {
+            let raw = &self.entries[place].raw;
+            raw.node == node && raw.serial == serial
+        })
+    }
+
+    fn account(&self, account: u16) -> &Account {
+        &self.accounts[usize::from(account) - 1]
+    }
+
+    fn account_mut(&mut self, account: u16) -> &mut Account {
+        &mut self.accounts[usize::from(account) - 1]
+    }
+}

@@ -1,0 +1,149 @@
+//! Refusals 1 to 16, in checking order.
+
+use super::*;
+
+/// The last day, 2099-12-31.
+const LAST_DAY: u16 = 36_524;
+const MAX_AMOUNT: u32 = 100_000_000;
+const MAX_PERIOD: u16 = 62;
+const MAX_RATE: u16 = 2_000;
+/// Added customers come within these days, an expiry after them.
+const REFUND_DAYS: u16 = 1_826;
+
+/// An entry that no refusal stops: its kind, with the place of the entry
+/// that it names.
+pub(super) enum Accepted {
+    Contribution,
+    AddedCustomer(usize),
+    Bill,
+    Payment,
+    Deposit,
+    DepositReturn,
+    Expiry(usize),
+    Correction(usize),
+}
+
+type Checked = Result<Accepted, u8>;
+
+/// Stops with the refusal where it holds.
+fn refuse(holds: bool, refusal: u8) -> Result<(), u8> {
+    if holds {
+        Err(refusal)
+    } else {
+        Ok(())
+    }
+}
+
+/// Whether an account is 1 to 128: else refusal 3.
+pub(super) fn is_account(account: u16) -> bool {
+    (1..=ACCOUNTS).contains(&usize::from(account))
+}
+
+/// Whether a node is 1 or 2: else refusal 2.
+pub(super) fn is_node(node: u8) -> bool {
+    node == 1 || node == 2
+}
+
+/// Refusals 1 to 5: what the entry's own fields decide.
+fn check_fields(raw: &Raw) -> Result<(), u8> {
+    refuse(!(CONTRIBUTION..=CORRECTION).contains(&raw.kind), 1)?;
+    refuse(!is_node(raw.node), 2)?;
+    refuse(!is_account(raw.account), 3)?;
+    refuse(raw.day > LAST_DAY, 4)?;
+    refuse(!in_range(raw), 5)
+}
+
+/// Whether every field but the serial is in the range of the entry's kind.
+fn in_range(raw: &Raw) -> bool {
+    let amount = (1..=MAX_AMOUNT).contains(&raw.amount);
+    let named = is_node(raw.named_node) && raw.named_serial >= 1;
+    let phases = raw.b == 1 || raw.b == 3;
+
+    let no_amount = raw.amount == 0;
+    let not_named = raw.named_node == 0 && raw.named_serial == 0;
+    let no_a = raw.a == 0;
+    let no_b = raw.b == 0;
+
+    match raw.kind {
+        CONTRIBUTION => amount && not_named && raw.a >= 1 && phases,
+        ADDED_CUSTOMER => no_amount && named && raw.a >= 1 && phases,
+        BILL => {
+            let period = (1..=MAX_PERIOD).contains(&raw.a);
+            amount && not_named && period && u16::from(raw.b) <= raw.a
+        }
+        PAYMENT => amount && not_named && no_a && no_b,
+        DEPOSIT => amount && not_named && raw.a <= MAX_RATE && no_b,
+        DEPOSIT_RETURN => no_amount && not_named && no_a && no_b,
+        EXPIRY => no_amount && named && no_a && no_b,
+        CORRECTION => raw.amount <= MAX_AMOUNT && named && no_a && no_b,
+        _ => false,
+    }
+}
+
+impl Book {
+    /// Refusals 1 to 16 of a posting.
+    pub(super) fn check(&self, raw: &Raw) -> Checked {
+        check_fields(raw)?;
+        let last = self.last_serials[usize::from(raw.node) - 1];
+        refuse(raw.serial <= last, 6)?;
+        refuse(self.count == ENTRIES, 7)?;
+        match raw.kind {
+            CONTRIBUTION => Ok(Accepted::Contribution),
+            ADDED_CUSTOMER => self.check_added_customer(raw),
+            BILL => Ok(Accepted::Bill),
+            PAYMENT => Ok(Accepted::Payment),
+            DEPOSIT => self.check_deposit(raw),
+            DEPOSIT_RETURN => self.check_deposit_return(raw),
+            EXPIRY => self.check_expiry(raw),
+            _ => self.check_correction(raw),
+        }
+    }
+
+    fn check_added_customer(&self, raw: &Raw) -> Checked {
+        let place = self.named(raw, &[CONTRIBUTION])?;
+        let contribution = &self.entries[place];
+        refuse(raw.day < contribution.raw.day, 10)?;
+        refuse(contribution.closed, 11)?;
+        refuse(raw.day - contribution.raw.day >= REFUND_DAYS, 12)?;
+        refuse(raw.b == 1 && contribution.raw.b == 3, 14)?;
+        refuse(raw.a > contribution.raw.a, 15)?;
+        Ok(Accepted::AddedCustomer(place))
+    }
+
+    fn check_deposit(&self, raw: &Raw) -> Checked {
+        refuse(self.account(raw.account).deposit != 0, 9)?;
+        Ok(Accepted::Deposit)
+    }
+
+    fn check_deposit_return(&self, raw: &Raw) -> Checked {
+        let account = self.account(raw.account);
+        refuse(account.deposit == 0, 9)?;
+        refuse(raw.day < account.deposit_day, 10)?;
+        Ok(Accepted::DepositReturn)
+    }
+
+    fn check_expiry(&self, raw: &Raw) -> Checked {
+        let place = self.named(raw, &[CONTRIBUTION])?;
+        let contribution = &self.entries[place];
+        refuse(raw.day < contribution.raw.day, 10)?;
+        refuse(contribution.closed, 11)?;
+        refuse(raw.day - contribution.raw.day < REFUND_DAYS, 13)?;
+        Ok(Accepted::Expiry(place))
+    }
+
+    fn check_correction(&self, raw: &Raw) -> Checked {
+        let place = self.named(raw, &[BILL, PAYMENT])?;
+        let named = &self.entries[place];
+        refuse(raw.day < named.raw.day, 10)?;
+        refuse(named.corrected, 16)?;
+        Ok(Accepted::Correction(place))
+    }
+
+    /// The place of the named entry, sought along the account's chain;
+    /// refusal 8 where it is not there or of none of these kinds.
+    fn named(&self, raw: &Raw, kinds: &[u8]) -> Result<usize, u8> {
+        self.find(raw.account, raw.named_node, raw.named_serial)
+            .filter(|&place| kinds.contains(&self.entries[place].raw.kind))
+            .ok_or(8)
+    }
+}

@@ -1,0 +1,170 @@
+//! Posting: the moves of each kind.
+
+use super::check::Accepted;
+use super::*;
+
+/// The part of a bill's charge for the days served, rounded half up.
+fn billed(charge: u64, period: u64, served: u64) -> u64 {
+    (2 * charge * served + period) / (2 * period)
+}
+
+/// Interest for `days` at a yearly rate in hundredths of a percent, rounded
+/// half up.
+fn interest(deposit: u64, rate: u64, days: u64) -> u64 {
+    (2 * deposit * rate * days + 3_650_000) / 7_300_000
+}
+
+impl Book {
+    /// Posts one entry. A refused entry leaves the book unchanged.
+    pub fn post(&mut self, raw: &Raw) -> Reply {
+        match self.check(raw) {
+            Err(refusal) => Reply::refused(refusal),
+            Ok(accepted) => {
+                let number = self.append(raw);
+                Reply {
+                    number,
+                    ..self.apply(raw, accepted)
+                }
+            }
+        }
+    }
+
+    /// Adds the entry to the book and its account's chain; gives its number.
+    fn append(&mut self, raw: &Raw) -> u16 {
+        let next = self.account(raw.account).newest;
+        self.entries[self.count] = Entry::new(*raw, next);
+        self.count += 1;
+        let number = self.count as u16;
+        self.account_mut(raw.account).newest = number;
+        self.last_serials[usize::from(raw.node) - 1] = raw.serial;
+        number
+    }
+
+    /// Makes the moves of the entry appended last.
+    fn apply(&mut self, raw: &Raw, accepted: Accepted) -> Reply {
+        match accepted {
+            Accepted::Contribution => self.contribution(raw),
+            Accepted::AddedCustomer(place) => self.added_customer(raw, place),
+            Accepted::Bill => self.bill(raw),
+            Accepted::Payment => self.payment(raw),
+            Accepted::Deposit => self.deposit(raw),
+            Accepted::DepositReturn => self.deposit_return(raw),
+            Accepted::Expiry(place) => self.expiry(place),
+            Accepted::Correction(place) => self.correction(raw, place),
+        }
+    }
+
+    fn contribution(&mut self, raw: &Raw) -> Reply {
+        self.appended().held = u64::from(raw.amount);
+        Reply::default()
+    }
+
+    /// The refund is credited; what is left over is paid out.
+    fn added_customer(&mut self, raw: &Raw, place: usize) -> Reply {
+        let contribution = &mut self.entries[place];
+        let k = 2 + u64::from(contribution.customers);
+        let share = u64::from(contribution.raw.amount) * u64::from(raw.a)
+            / (u64::from(contribution.raw.a) * k);
+        let refund = share.min(contribution.held);
+        let account = &mut self.accounts[usize::from(raw.account) - 1];
+        let (settled, paid_out) = account.credit(refund);
+        contribution.held -= refund;
+        contribution.to_arrears += settled;
+        contribution.paid_out += paid_out;
+        contribution.customers += 1;
+        Reply {
+            settled,
+            paid_out,
+            ..Reply::default()
+        }
+    }
+
+    fn bill(&mut self, raw: &Raw) -> Reply {
+        let billed = billed(raw.amount.into(), raw.a.into(), raw.b.into());
+        self.appended().standing = billed;
+        self.account_mut(raw.account).charge(billed);
+        Reply::default()
+    }
+
+    fn payment(&mut self, raw: &Raw) -> Reply {
+        let amount = u64::from(raw.amount);
+        self.appended().standing = amount;
+        self.credit_keeping_rest(raw.account, amount)
+    }
+
+    fn deposit(&mut self, raw: &Raw) -> Reply {
+        let account = self.account_mut(raw.account);
+        account.deposit = u64::from(raw.amount);
+        account.rate = raw.a;
+        account.deposit_day = raw.day;
+        Reply::default()
+    }
+
+    /// Deposit and interest are credited together; what is left over is paid
+    /// out.
+    fn deposit_return(&mut self, raw: &Raw) -> Reply {
+        let account = self.account_mut(raw.account);
+        let days = raw.day - account.deposit_day;
+        let interest = interest(account.deposit, account.rate.into(), days.into());
+        let (settled, paid_out) = account.credit(account.deposit + interest);
+        account.deposit = 0;
+        account.rate = 0;
+        account.deposit_day = 0;
+        Reply {
+            settled,
+            paid_out,
+            interest,
+            ..Reply::default()
+        }
+    }
+
+    /// What is still held is retained and the contribution is closed.
+    fn expiry(&mut self, place: usize) -> Reply {
+        let contribution = &mut self.entries[place];
+        contribution.retained = contribution.held;
+        contribution.held = 0;
+        contribution.closed = true;
+        Reply {
+            retained: contribution.retained,
+            ..Reply::default()
+        }
+    }
+
+    /// The named entry's standing amount becomes the new one. A bill that
+    /// grows, or a payment that shrinks, charges the difference; the others
+    /// credit it.
+    fn correction(&mut self, raw: &Raw, place: usize) -> Reply {
+        let named = &mut self.entries[place];
+        let old = named.standing;
+        let new = u64::from(raw.amount);
+        named.standing = new;
+        named.corrected = true;
+        let charges = if named.raw.kind == BILL {
+            new > old
+        } else {
+            new < old
+        };
+        if charges {
+            self.account_mut(raw.account).charge(new.abs_diff(old));
+            Reply::default()
+        } else {
+            self.credit_keeping_rest(raw.account, new.abs_diff(old))
+        }
+    }
+
+    /// Credits the amount; what is left over is added to credit.
+    fn credit_keeping_rest(&mut self, account: u16, amount: u64) -> Reply {
+        let account = self.account_mut(account);
+        let (settled, rest) = account.credit(amount);
+        account.credit += rest;
+        Reply {
+            settled,
+            ..Reply::default()
+        }
+    }
+
+    /// The entry appended last.
+    fn appended(&mut self) -> &mut Entry {
+        &mut self.entries[self.count - 1]
+    }
+}

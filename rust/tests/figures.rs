@@ -1,0 +1,636 @@
+//! Document 01's figures and refusals against the plain book. Expected values
+//! are worked out from document 01.
+
+use contribution_book::plain::*;
+
+/// Bytes of a full book's image.
+const FULL: usize = 24_600;
+
+/// An entry of node 1 and account 5 on day 0; a test sets the other fields.
+fn entry(kind: u8, serial: u32) -> Raw {
+    Raw {
+        kind,
+        node: 1,
+        account: 5,
+        serial,
+        ..Raw::default()
+    }
+}
+
+fn contribution(serial: u32, amount: u32, metres: u16, phases: u8) -> Raw {
+    Raw {
+        amount,
+        a: metres,
+        b: phases,
+        ..entry(CONTRIBUTION, serial)
+    }
+}
+
+fn added(serial: u32, named_serial: u32, metres: u16) -> Raw {
+    Raw {
+        named_node: 1,
+        named_serial,
+        a: metres,
+        b: 1,
+        ..entry(ADDED_CUSTOMER, serial)
+    }
+}
+
+fn bill(serial: u32, charge: u32, period: u16, served: u8) -> Raw {
+    Raw {
+        amount: charge,
+        a: period,
+        b: served,
+        ..entry(BILL, serial)
+    }
+}
+
+fn payment(serial: u32, amount: u32) -> Raw {
+    Raw {
+        amount,
+        ..entry(PAYMENT, serial)
+    }
+}
+
+fn deposit(serial: u32, amount: u32, rate: u16) -> Raw {
+    Raw {
+        amount,
+        a: rate,
+        ..entry(DEPOSIT, serial)
+    }
+}
+
+fn deposit_return(serial: u32) -> Raw {
+    entry(DEPOSIT_RETURN, serial)
+}
+
+fn expiry(serial: u32, named_serial: u32) -> Raw {
+    Raw {
+        named_node: 1,
+        named_serial,
+        ..entry(EXPIRY, serial)
+    }
+}
+
+fn correction(serial: u32, named_serial: u32, amount: u32) -> Raw {
+    Raw {
+        named_node: 1,
+        named_serial,
+        amount,
+        ..entry(CORRECTION, serial)
+    }
+}
+
+fn on(day: u16, raw: Raw) -> Raw {
+    Raw { day, ..raw }
+}
+
+fn book(entries: &[Raw]) -> Book {
+    let mut book = Book::fresh();
+    for raw in entries {
+        assert_eq!(book.post(raw).refusal, 0, "{raw:?}");
+    }
+    book
+}
+
+/// Posts an entry that is accepted; gives settled, paid out, retained and
+/// interest.
+fn accepted(book: &mut Book, raw: Raw) -> [u64; 4] {
+    let number = book.count() as u16 + 1;
+    let reply = book.post(&raw);
+    assert_eq!((reply.refusal, reply.number), (0, number), "{raw:?}");
+    [
+        reply.settled,
+        reply.paid_out,
+        reply.retained,
+        reply.interest,
+    ]
+}
+
+/// Posts an entry that is refused: zeros beside the number, the book
+/// unchanged.
+fn refused(book: &mut Book, raw: Raw, refusal: u8) {
+    let before = book.clone();
+    let expected = Reply {
+        refusal,
+        ..Reply::default()
+    };
+    assert_eq!(book.post(&raw), expected, "{raw:?}");
+    assert!(*book == before, "{raw:?}");
+}
+
+/// Arrears and credit of account 5.
+fn balance(book: &Book) -> (u64, u64) {
+    let statement = book.statement(5, 0);
+    (statement.arrears, statement.credit)
+}
+
+/// A book of `count` payments of 1 cent to account 5.
+fn payments(count: u32) -> Book {
+    let list: Vec<Raw> = (1..=count).map(|serial| payment(serial, 1)).collect();
+    book(&list)
+}
+
+fn image(book: &Book) -> Vec<u8> {
+    let mut bytes = vec![0; 24 * (book.count() + 1)];
+    assert_eq!(book.save(&mut bytes), (0, bytes.len()));
+    bytes
+}
+
+/// Loads an image that is refused: the number, the record and a fresh book.
+fn load_refused(bytes: &[u8], refusal: u8, record: u16) {
+    let (book, number, place) = Book::load(bytes);
+    assert_eq!((number, place), (refusal, record));
+    assert!(book == Book::fresh());
+}
+
+#[test]
+fn p1_to_p5_refunds() {
+    let mut book = book(&[contribution(1, 300_000, 200, 1), bill(2, 80_000, 1, 1)]);
+    assert_eq!(accepted(&mut book, added(3, 1, 100)), [75_000, 0, 0, 0]);
+    assert_eq!(accepted(&mut book, added(4, 1, 200)), [5_000, 95_000, 0, 0]);
+    assert_eq!(accepted(&mut book, added(5, 1, 200)), [0, 75_000, 0, 0]);
+    assert_eq!(accepted(&mut book, added(6, 1, 200)), [0, 50_000, 0, 0]);
+    assert_eq!(accepted(&mut book, added(7, 1, 200)), [0, 0, 0, 0]);
+    assert_eq!(balance(&book), (0, 0));
+    let expected = ContributionReply {
+        amount: 300_000,
+        to_arrears: 80_000,
+        paid_out: 220_000,
+        customers: 5,
+        ..ContributionReply::default()
+    };
+    assert_eq!(book.contribution_query(5, 1, 1), expected);
+}
+
+#[test]
+fn a_refused_customer_does_not_raise_k() {
+    let mut book = book(&[contribution(1, 300_000, 200, 1)]);
+    refused(&mut book, added(2, 1, 201), 15);
+    assert_eq!(accepted(&mut book, added(2, 1, 200)), [0, 150_000, 0, 0]);
+}
+
+#[test]
+fn the_largest_refund_needs_more_than_32_bits() {
+    let mut book = book(&[contribution(1, 100_000_000, 65_535, 1)]);
+    let customer = added(2, 1, 65_535);
+    assert_eq!(accepted(&mut book, customer), [0, 50_000_000, 0, 0]);
+}
+
+#[test]
+fn p6_added_customer_and_expiry_days() {
+    let start = book(&[on(100, contribution(1, 300_000, 200, 1))]);
+
+    let mut early = start.clone();
+    refused(&mut early, on(1_925, expiry(2, 1)), 13);
+    let customer = on(1_925, added(2, 1, 100));
+    assert_eq!(accepted(&mut early, customer), [0, 75_000, 0, 0]);
+
+    let mut late = start.clone();
+    refused(&mut late, on(1_926, added(2, 1, 100)), 12);
+    let end = on(1_926, expiry(2, 1));
+    assert_eq!(accepted(&mut late, end), [0, 0, 300_000, 0]);
+    let expected = ContributionReply {
+        amount: 300_000,
+        retained: 300_000,
+        closed: true,
+        ..ContributionReply::default()
+    };
+    assert_eq!(late.contribution_query(5, 1, 1), expected);
+    refused(&mut late, on(100, added(3, 1, 100)), 11);
+    refused(&mut late, on(1_926, expiry(3, 1)), 11);
+}
+
+#[test]
+fn p7_p8_billed_amounts() {
+    let figures = [
+        (10_000, 30, 7, 2_333),
+        (5, 2, 1, 3),
+        (10_000, 30, 0, 0),
+        (100_000_000, 62, 62, 100_000_000),
+    ];
+    for (charge, period, served, billed) in figures {
+        let mut book = Book::fresh();
+        let raw = bill(1, charge, period, served);
+        assert_eq!(accepted(&mut book, raw), [0; 4]);
+        assert_eq!(balance(&book), (billed, 0));
+        assert_eq!(book.statement(5, 1).bills, billed);
+    }
+}
+
+#[test]
+fn p9_p10_interest() {
+    let figures = [
+        (30_000, 520, 365, 1_560),
+        (1_000, 100, 18, 0),
+        (1_000, 100, 19, 1),
+        // 100,000,000 x 0.2 x 36,524 / 365 = 2,001,315,068.49...
+        (100_000_000, 2_000, 36_524, 2_001_315_068),
+    ];
+    for (amount, rate, days, interest) in figures {
+        let mut book = book(&[deposit(1, amount, rate)]);
+        assert_eq!(book.statement(5, 0).deposit, u64::from(amount));
+        let paid_out = u64::from(amount) + interest;
+        let raw = on(days, deposit_return(2));
+        assert_eq!(accepted(&mut book, raw), [0, paid_out, 0, interest]);
+        assert_eq!(book.statement(5, 0).deposit, 0);
+    }
+}
+
+#[test]
+fn a_returned_deposit_settles_arrears_first() {
+    let mut book = book(&[deposit(1, 30_000, 520), bill(2, 31_000, 1, 1)]);
+    let raw = on(365, deposit_return(3));
+    assert_eq!(accepted(&mut book, raw), [31_000, 560, 0, 1_560]);
+    assert_eq!(balance(&book), (0, 0));
+}
+
+#[test]
+fn p11_corrected_bill() {
+    let mut book = book(&[on(20, bill(1, 12_000, 1, 1))]);
+    assert_eq!(balance(&book), (12_000, 0));
+    let first = correction(2, 1, 10_000);
+    refused(&mut book, on(19, first), 10);
+    assert_eq!(accepted(&mut book, on(20, first)), [2_000, 0, 0, 0]);
+    assert_eq!(balance(&book), (10_000, 0));
+    refused(&mut book, on(20, correction(3, 1, 9_000)), 16);
+}
+
+#[test]
+fn p12_corrected_payment() {
+    let mut book = book(&[payment(1, 10_000), bill(2, 6_000, 1, 1)]);
+    assert_eq!(balance(&book), (0, 4_000));
+    assert_eq!(accepted(&mut book, correction(3, 1, 1_000)), [0; 4]);
+    assert_eq!(balance(&book), (5_000, 0));
+    assert_eq!(book.statement(5, 3).payments, 1_000);
+}
+
+#[test]
+fn corrections_in_the_other_directions() {
+    // The billed 2,333 stands, not the charge of 10,000.
+    let mut same = book(&[bill(1, 10_000, 30, 7)]);
+    assert_eq!(accepted(&mut same, correction(2, 1, 2_333)), [0; 4]);
+    assert_eq!(balance(&same), (2_333, 0));
+    refused(&mut same, correction(3, 1, 0), 16);
+
+    let mut grown_bill = book(&[bill(1, 100, 1, 1), payment(2, 150)]);
+    assert_eq!(accepted(&mut grown_bill, correction(3, 1, 180)), [0; 4]);
+    assert_eq!(balance(&grown_bill), (30, 0));
+
+    let mut grown_payment = book(&[bill(1, 100, 1, 1), payment(2, 40)]);
+    let raw = correction(3, 2, 140);
+    assert_eq!(accepted(&mut grown_payment, raw), [60, 0, 0, 0]);
+    assert_eq!(balance(&grown_payment), (0, 40));
+}
+
+#[test]
+fn byte_figure_in_both_directions() {
+    let mut bytes = [0; 48];
+    bytes[..6].copy_from_slice(&[0x43, 0x48, 0x42, 0x31, 0x01, 0x00]);
+    bytes[24..40].copy_from_slice(&[
+        0x04, 0x01, 0x05, 0x00, 0x0A, 0x00, 0x00, 0x00, //
+        0x01, 0x00, 0x00, 0x00, 0xC4, 0x09, 0x00, 0x00,
+    ]);
+    let posted = book(&[on(10, payment(1, 2_500))]);
+    assert_eq!(image(&posted), bytes);
+
+    let (loaded, refusal, record) = Book::load(&bytes);
+    assert_eq!((refusal, record), (0, 0));
+    assert!(loaded == posted);
+    let expected = StatementReply {
+        credit: 2_500,
+        links_read: 1,
+        payments: 2_500,
+        complete: true,
+        ..StatementReply::default()
+    };
+    assert_eq!(loaded.statement(5, 1), expected);
+}
+
+#[test]
+fn an_image_of_every_kind_loads_as_saved() {
+    let posted = book(&[
+        contribution(1, 300_000, 200, 3),
+        bill(2, 80_000, 62, 31),
+        Raw {
+            b: 3,
+            ..added(3, 1, 100)
+        },
+        payment(4, 7_000),
+        deposit(5, 30_000, 520),
+        on(365, deposit_return(6)),
+        on(1_826, expiry(7, 1)),
+        correction(8, 2, 41_000),
+        Raw {
+            node: 2,
+            account: 128,
+            ..payment(1, 9)
+        },
+    ]);
+    let (loaded, refusal, record) = Book::load(&image(&posted));
+    assert_eq!((refusal, record), (0, 0));
+    assert!(loaded == posted);
+}
+
+#[test]
+fn refusals_1_to_5_fields() {
+    let mut book = Book::fresh();
+    let good = payment(1, 1);
+    for kind in [0, 9, 255] {
+        refused(&mut book, Raw { kind, ..good }, 1);
+    }
+    for node in [0, 3] {
+        refused(&mut book, Raw { node, ..good }, 2);
+    }
+    for account in [0, 129] {
+        refused(&mut book, Raw { account, ..good }, 3);
+    }
+    refused(&mut book, on(36_525, good), 4);
+    let named = added(1, 1, 1);
+    let broken = [
+        payment(1, 0),
+        payment(1, 100_000_001),
+        Raw { a: 1, ..good },
+        Raw { b: 1, ..good },
+        Raw {
+            named_node: 1,
+            ..good
+        },
+        Raw {
+            named_serial: 1,
+            ..good
+        },
+        contribution(1, 1, 0, 1),
+        contribution(1, 1, 1, 0),
+        contribution(1, 1, 1, 2),
+        contribution(1, 1, 1, 4),
+        added(1, 0, 1),
+        added(1, 1, 0),
+        Raw {
+            named_node: 0,
+            ..named
+        },
+        Raw {
+            named_node: 3,
+            ..named
+        },
+        Raw { amount: 1, ..named },
+        bill(1, 1, 0, 0),
+        bill(1, 1, 63, 0),
+        bill(1, 1, 30, 31),
+        deposit(1, 1, 2_001),
+        Raw {
+            amount: 1,
+            ..deposit_return(1)
+        },
+        Raw {
+            b: 1,
+            ..expiry(1, 1)
+        },
+        correction(1, 0, 1),
+        correction(1, 1, 100_000_001),
+    ];
+    for raw in broken {
+        refused(&mut book, raw, 5);
+    }
+    accepted(&mut book, on(36_524, payment(1, 100_000_000)));
+}
+
+#[test]
+fn refusals_6_and_7_serials_and_a_full_book() {
+    let mut book = payments(1_023);
+    refused(&mut book, payment(1_023, 1), 6);
+    refused(&mut book, payment(0, 1), 6);
+    let other = Raw {
+        node: 2,
+        ..payment(0, 1)
+    };
+    refused(&mut book, other, 6);
+    accepted(&mut book, Raw { serial: 1, ..other });
+    refused(&mut book, payment(1_024, 1), 7);
+    refused(&mut book, payment(1_023, 1), 6);
+}
+
+#[test]
+fn refusals_8_to_15() {
+    let mut book = book(&[on(100, contribution(1, 300_000, 200, 3)), payment(2, 1)]);
+    let customer = on(
+        100,
+        Raw {
+            b: 3,
+            ..added(3, 1, 200)
+        },
+    );
+    for raw in [
+        added(3, 2, 1),
+        added(3, 3, 1),
+        expiry(3, 2),
+        correction(3, 1, 1),
+        Raw {
+            named_node: 2,
+            ..customer
+        },
+        Raw {
+            account: 6,
+            ..customer
+        },
+    ] {
+        refused(&mut book, raw, 8);
+    }
+    refused(&mut book, deposit_return(3), 9);
+    refused(
+        &mut book,
+        Raw {
+            day: 99,
+            ..customer
+        },
+        10,
+    );
+    refused(&mut book, on(99, expiry(3, 1)), 10);
+    refused(&mut book, Raw { b: 1, ..customer }, 14);
+    refused(&mut book, Raw { a: 201, ..customer }, 15);
+    accepted(&mut book, customer);
+    accepted(&mut book, on(50, deposit(4, 1, 0)));
+    refused(&mut book, deposit(5, 1, 0), 9);
+    refused(&mut book, on(49, deposit_return(5)), 10);
+    accepted(&mut book, on(50, deposit_return(5)));
+    accepted(&mut book, on(50, deposit(6, 1, 0)));
+}
+
+#[test]
+fn refusal_17_image_length() {
+    load_refused(&[], 17, 0);
+    let full = image(&payments(1_024));
+    assert_eq!(full.len(), FULL);
+    load_refused(&full[..23], 17, 0);
+    load_refused(&full[..25], 17, 0);
+    load_refused(&full[..FULL - 1], 17, 0);
+    let mut longer = full.clone();
+    longer.resize(FULL + 24, 0);
+    load_refused(&longer[..FULL + 1], 17, 0);
+    load_refused(&longer, 17, 0);
+
+    let (loaded, refusal, record) = Book::load(&full);
+    assert_eq!((loaded.count(), refusal, record), (1_024, 0, 0));
+    let (loaded, refusal, record) = Book::load(&image(&Book::fresh()));
+    assert_eq!((refusal, record), (0, 0));
+    assert!(loaded == Book::fresh());
+}
+
+#[test]
+fn refusal_18_mark_and_zeros() {
+    let good = image(&payments(1));
+    for at in (0..4).chain(6..24) {
+        let mut bytes = good.clone();
+        bytes[at] ^= 1;
+        // 18 comes before 19.
+        bytes[4] = 2;
+        load_refused(&bytes, 18, 0);
+    }
+}
+
+#[test]
+fn refusal_19_count() {
+    let good = image(&payments(1));
+    for (low, high) in [(0, 0), (2, 0), (1, 1)] {
+        let mut bytes = good.clone();
+        bytes[4] = low;
+        bytes[5] = high;
+        // 19 comes before the records.
+        bytes[24] = 9;
+        load_refused(&bytes, 19, 0);
+    }
+}
+
+#[test]
+fn refusal_20_next_index() {
+    let posted = book(&[
+        payment(1, 1),
+        Raw {
+            account: 6,
+            ..payment(2, 1)
+        },
+        payment(3, 1),
+    ]);
+    let good = image(&posted);
+    assert_eq!([good[30], good[54], good[78]], [0, 0, 1]);
+    for (record, next) in [(1, 1), (2, 1), (3, 0), (3, 2), (3, 3)] {
+        let mut bytes = good.clone();
+        bytes[24 * record + 6] = next;
+        load_refused(&bytes, 20, record as u16);
+        // 1 to 16 come before 20 in the same record.
+        bytes[24 * record] = 9;
+        load_refused(&bytes, 1, record as u16);
+    }
+    let mut high = good.clone();
+    high[79] = 1;
+    load_refused(&high, 20, 3);
+    // The first refusal ends the load.
+    high[31] = 1;
+    load_refused(&high, 20, 1);
+}
+
+#[test]
+fn refusal_21_save_buffer() {
+    for count in [0, 1, 1_024] {
+        let book = payments(count);
+        let length = 24 * (count as usize + 1);
+        let mut short = vec![0xEE; length - 1];
+        assert_eq!(book.save(&mut short), (21, 0));
+        assert!(short.iter().all(|&byte| byte == 0xEE));
+
+        let mut longer = vec![0xEE; length + 5];
+        assert_eq!(book.save(&mut longer), (0, length));
+        assert_eq!(longer[length..], [0xEE; 5]);
+        assert_eq!(longer[..length], image(&book));
+    }
+}
+
+#[test]
+fn refusal_22_result_list() {
+    let entries = [payment(1, 5), payment(1, 6), payment(2, 7)];
+    let mut book = Book::fresh();
+    let mut short = [9; 2];
+    assert_eq!(book.carry_over(&entries, &mut short), 22);
+    assert_eq!(short, [9; 2]);
+    assert!(book == Book::fresh());
+
+    let mut longer = [9; 4];
+    assert_eq!(book.carry_over(&entries, &mut longer), 0);
+    assert_eq!(longer, [0, 6, 0, 9]);
+    assert_eq!((book.count(), balance(&book)), (2, (0, 12)));
+
+    assert_eq!(book.carry_over(&[], &mut []), 0);
+    let mut exact = [9];
+    assert_eq!(book.carry_over(&[payment(3, 1)], &mut exact), 0);
+    assert_eq!(exact, [0]);
+}
+
+#[test]
+fn statement_allowance() {
+    let book = book(&[
+        contribution(1, 300_000, 200, 1),
+        bill(2, 100, 1, 1),
+        payment(3, 30),
+        Raw {
+            account: 6,
+            ..bill(4, 9, 1, 1)
+        },
+    ]);
+    // Allowance, links read, bills, payments, complete.
+    let figures = [
+        (0, 0, 0, 0, false),
+        (1, 1, 0, 30, false),
+        (2, 2, 100, 30, false),
+        (3, 3, 100, 30, true),
+        (u64::MAX, 3, 100, 30, true),
+    ];
+    for (allowance, links_read, bills, payments, complete) in figures {
+        let expected = StatementReply {
+            refusal: 0,
+            arrears: 70,
+            credit: 0,
+            deposit: 0,
+            held: 300_000,
+            links_read,
+            bills,
+            payments,
+            complete,
+        };
+        assert_eq!(book.statement(5, allowance), expected);
+    }
+    let empty = StatementReply {
+        complete: true,
+        ..StatementReply::default()
+    };
+    assert_eq!(book.statement(128, 0), empty);
+    let refusal = StatementReply {
+        refusal: 3,
+        ..StatementReply::default()
+    };
+    assert_eq!(book.statement(0, 9), refusal);
+    assert_eq!(book.statement(129, 9), refusal);
+}
+
+#[test]
+fn contribution_query_refusals() {
+    let book = book(&[contribution(1, 300_000, 200, 1), payment(2, 1)]);
+    let refusals = [
+        (0, 0, 1, 2),
+        (5, 3, 1, 2),
+        (0, 1, 1, 3),
+        (129, 1, 1, 3),
+        (5, 1, 0, 8),
+        (5, 1, 2, 8),
+        (5, 1, 3, 8),
+        (5, 2, 1, 8),
+        (6, 1, 1, 8),
+    ];
+    for (account, node, serial, refusal) in refusals {
+        let expected = ContributionReply {
+            refusal,
+            ..ContributionReply::default()
+        };
+        assert_eq!(book.contribution_query(account, node, serial), expected);
+    }
+}
