@@ -1,3 +1,5 @@
 //! The contribution book of document 01 for Rust hosts.
 
 pub mod plain;
+#[cfg(feature = "proved")]
+pub mod proved;
