@@ -8,6 +8,7 @@ mod image;
 mod posting;
 mod query;
 
+pub(crate) use image::{check_header, parse_record};
 pub use query::{ContributionReply, StatementReply};
 
 /// Accounts of every book, numbered from 1.
