@@ -2,6 +2,7 @@
 
 pub mod by_value;
 pub mod plain;
+pub mod printer;
 #[cfg(feature = "proved")]
 pub mod proved;
 pub mod samples;
