@@ -8,10 +8,10 @@ use crate::plain::{self, ContributionReply, Raw, Reply, StatementReply, RECORD};
 /// Bytes of the proved book.
 pub const PROVED_BYTES: usize = 87_056;
 
-/// Unused bytes beside the plain book, so that its size and the proved book's
-/// are equal modulo 4,096. By itself the plain book has 16 bytes modulo 4,096,
-/// and copies between two neighbours on the stack take several times as long
-/// where their addresses differ by so little.
+/// Unused bytes beside the plain book, so that this book's size is the proved
+/// book's modulo 4,096. The plain book's own size is 16 modulo 4,096, and a copy
+/// between addresses that differ by so little, as those of neighbours on the
+/// stack do, takes several times as long.
 const UNUSED: usize = (PROVED_BYTES - size_of::<plain::Book>()) % 4_096;
 
 /// The contribution book, passed by value.

@@ -2,8 +2,8 @@
 
 use crate::plain::*;
 
-/// An entry of node 1 in its kind's range. One that names another names this
-/// serial of node 1; the other kinds leave it out.
+/// An entry of node 1 in its kind's range. The kinds that name no entry leave
+/// out the named serial.
 pub fn entry(kind: u8, account: u16, serial: u32, named_serial: u32) -> Raw {
     let (day, amount, named_serial, a, b) = match kind {
         CONTRIBUTION => (0, 300_000, 0, 200, 1),
@@ -26,5 +26,13 @@ pub fn entry(kind: u8, account: u16, serial: u32, named_serial: u32) -> Raw {
         a,
         b,
         named_node: u8::from(named_serial != 0),
+    }
+}
+
+/// A kind that entries of this kind may name.
+pub fn named_kind(kind: u8) -> u8 {
+    match kind {
+        CORRECTION => BILL,
+        _ => CONTRIBUTION,
     }
 }

@@ -17,18 +17,13 @@ impl Numbers {
     }
 }
 
-/// Entries of every kind by turns on two accounts. A correction names a bill,
-/// the others a contribution.
+/// Entries of every kind by turns, on two accounts.
 fn entries(seed: u64) -> Vec<Raw> {
     let mut numbers = Numbers(seed);
     let mut entry = |serial: u32| {
         let kind = ((serial - 1) % 8) as u8 + 1;
-        let named_kind = if kind == CORRECTION {
-            BILL
-        } else {
-            CONTRIBUTION
-        };
-        let named_serial = 8 * numbers.below((serial - 1) / 8 + 1) + u32::from(named_kind);
+        let turn = numbers.below((serial - 1) / 8 + 1);
+        let named_serial = 8 * turn + u32::from(samples::named_kind(kind));
         let account = numbers.below(2) as u16 + 1;
         Raw {
             day: numbers.below(5_000) as u16,

@@ -96,8 +96,8 @@ fn write_record(record: &mut [u8], raw: &Raw, next: u16) {
     record[23] = raw.named_node;
 }
 
-/// A record's entry and its next index.
-pub(crate) fn parse_record(record: &[u8]) -> (Raw, u16) {
+/// The entry and the next index of a record of 24 bytes.
+pub fn parse_record(record: &[u8]) -> (Raw, u16) {
     let raw = Raw {
         kind: record[0],
         node: record[1],
