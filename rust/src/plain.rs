@@ -8,6 +8,8 @@ mod image;
 mod posting;
 mod query;
 
+pub(crate) use image::check_header;
+pub use image::parse_record;
 pub use query::{ContributionReply, StatementReply};
 
 /// Accounts of every book, numbered from 1.
