@@ -47,15 +47,15 @@ silent (x ∷ xs) n e = go (λ q. silent xs (n .1) q) (x .broken) refl e
 -- THE RANGES OF FIELDS
 highs : (k : Kind) (a : ℕ) → let l = limitsOf k a in (l .«amount_high» ≤ amountMost) × (l .«a_high» ≤ 65535) × (a ≤ l .«a_high» → l .«b_high» ≤ 62)
 unfolding limitsOf
-highs kind.Unknown a = (omega arith, omega arith, λ l. omega arith)
-highs kind.Contribution a = (omega arith, omega arith, λ l. omega arith)
-highs kind.AddedCustomer a = (omega arith, omega arith, λ l. omega arith)
-highs kind.Bill a = (omega arith, omega arith, λ l. omega arith)
-highs kind.Payment a = (omega arith, omega arith, λ l. omega arith)
-highs kind.Deposit a = (omega arith, omega arith, λ l. omega arith)
-highs kind.DepositReturn a = (omega arith, omega arith, λ l. omega arith)
-highs kind.Expiry a = (omega arith, omega arith, λ l. omega arith)
-highs kind.Correction a = (omega arith, omega arith, λ l. omega arith)
+highs kind.Unknown a = omega arith
+highs kind.Contribution a = omega arith
+highs kind.AddedCustomer a = omega arith
+highs kind.Bill a = omega arith
+highs kind.Payment a = omega arith
+highs kind.Deposit a = omega arith
+highs kind.DepositReturn a = omega arith
+highs kind.Expiry a = omega arith
+highs kind.Correction a = omega arith
 
 b-fits : (r : Raw) (phases : Bool) (high : ℕ) → high ≤ 62 → bFits r phases high ≡ true → r .b ≤ 62
 unfolding bFits
@@ -198,7 +198,7 @@ is-sum kind.DepositReturn e = absurd (true≢false e)
 is-sum kind.Expiry e = absurd (true≢false e)
 is-sum kind.Correction e = absurd (true≢false e)
 
-no-kind : kindOf 0 ≡ kind.Unknown
+pub no-kind : kindOf 0 ≡ kind.Unknown
 unfolding kindOf
 no-kind = refl
 

@@ -16,7 +16,7 @@ use Rattle.rules.specs.Formulas.{billed, interest}
 use Rattle.history.specs.History.{History, names, Fate, change, fate, Balance, Move, stays, charges, credits, refunds, deposits, returns, retains, moved, moveBy, balance, judge}
 use Rattle.history.specs.Laws.{Valid, empty, joins, In, newest, older}
 use Rattle.history.proofs.Accept.{InRange, accepts, Sort, as-contribution, as-added, as-bill, as-payment, as-deposit, as-return, as-expiry, as-correction, sorted}
-use Rattle.history.proofs.Names.{hit}
+use Rattle.history.proofs.Names.{hit, fate-cases}
 use Rattle.history.proofs.Moves.{move-contribution, move-bill, move-payment, move-deposit, move-return, move-added, move-expiry, move-correction, corrects, restates-cases}
 
 -- more than one entry can move
@@ -43,40 +43,19 @@ first-small e true w = billed-small (e .amount) (e .b) (e .a) (w .amount) (w .b)
 first-small e false w = omega (arith, w .amount)
 
 -- what became of an entry
-added-change : (t : Bool) (k : Kind) (c e : Raw) (n : ℕ) (f : Fate) → f .added ≤ n → cond t (change k c e f) f .added ≤ suc n
-added-change true kind.Unknown c e n f w = omega arith
-added-change true kind.Contribution c e n f w = omega arith
-added-change true kind.AddedCustomer c e n f w = omega arith
-added-change true kind.Bill c e n f w = omega arith
-added-change true kind.Payment c e n f w = omega arith
-added-change true kind.Deposit c e n f w = omega arith
-added-change true kind.DepositReturn c e n f w = omega arith
-added-change true kind.Expiry c e n f w = omega arith
-added-change true kind.Correction c e n f w = omega arith
-added-change false k c e n f w = omega arith
-
 pub added-small : (h : History) (e : Raw) → fate h e .added ≤ length h
 unfolding fate
 added-small [] e = omega arith
-added-small (c ∷ h) e = added-change (names c e) (kindOf (c .kind)) c e (length h) (fate h e) (added-small h e)
-
-standing-change : (t : Bool) (k : Kind) (c e : Raw) (f : Fate) → c .amount ≤ amountMost → f .standing ≤ large → cond t (change k c e f) f .standing ≤ large
-standing-change true kind.Unknown c e f q w = w
-standing-change true kind.Contribution c e f q w = w
-standing-change true kind.AddedCustomer c e f q w = w
-standing-change true kind.Bill c e f q w = w
-standing-change true kind.Payment c e f q w = w
-standing-change true kind.Deposit c e f q w = w
-standing-change true kind.DepositReturn c e f q w = w
-standing-change true kind.Expiry c e f q w = w
-standing-change true kind.Correction c e f q w = omega arith
-standing-change false k c e f q w = w
+added-small (c ∷ h) e =
+    let ih = added-small h e in
+    fate-cases (λ f. f .added ≤ suc (length h)) (names c e) (kindOf (c .kind)) c e (fate h e) (omega arith) (omega arith) (omega arith) (omega arith)
 
 pub standing-small : {h : History} → Valid h → (e : Raw) → InRange e (kindOf (e .kind)) → fate h e .standing ≤ large
 unfolding fate
 standing-small empty e w = first-small e (sameOf (kindOf (e .kind)) kind.Bill) w
 standing-small (joins {r} {h} v j) e w =
-    standing-change (names r e) (kindOf (r .kind)) r e (fate h e) (accepts h r j .ranges .amount) (standing-small v e w)
+    let ih = standing-small v e w in
+    fate-cases (λ f. f .standing ≤ large) (names r e) (kindOf (r .kind)) r e (fate h e) ih ih ih (omega (arith, accepts h r j .ranges .amount))
 
 -- an account's amounts
 pub record Bounded (n : ℕ) (b : Balance) : Type 0 where

@@ -15,7 +15,7 @@ use Rattle.rules.specs.Moves.{settles, leaves}
 use Rattle.history.specs.History.{History, naming, names, found, find, Fate, fateOf, posted, refundOf, change, fate, Balance, Move, stays, charges, credits, refunds, deposits, returns, retains, moved, moveBy, balance, Amounts, answered, amounts, judge, total, amountOf, standingAmount, heldOf, addedUp, toArrears, refundsPaid}
 use Rattle.history.specs.Laws.{Valid, empty, joins, In, newest, older, Conserved, Divided}
 use Rattle.history.proofs.Accept.{accepts, Sort, as-contribution, as-added, as-bill, as-payment, as-deposit, as-return, as-expiry, as-correction, correctable, sorted, Role, alone, upon, role}
-use Rattle.history.proofs.Names.{pointed, hit, unnamed, no-customers, Misses, none, miss, Hits, first, later, plain, misses-kind, hits, names-found, names-points, fate-miss, fate-hit, customers-miss, customers-hit, customers-other}
+use Rattle.history.proofs.Names.{pointed, hit, unnamed, no-customers, Misses, none, miss, Hits, first, later, plain, misses-kind, hits, names-found, names-points, fate-cases, fate-miss, fate-hit, customers-miss, customers-hit, customers-other}
 use Rattle.history.proofs.Moves.{move-contribution, move-bill, move-payment, move-deposit, move-return, move-added, move-expiry, move-correction, corrects, restates-cases}
 
 -- a sum as the history grows, whatever is read off the entries
@@ -229,27 +229,12 @@ conserve (joins {r} {h} v j) a = go (λ n. conserve v n) (eqb (r .account) a) re
 
 -- EACH CONTRIBUTION
 -- what is not closed has nothing retained
-open-change : (k : Kind) (c e : Raw) (f : Fate) → (f .closed ≡ false → f .retained ≡ 0) → change k c e f .closed ≡ false → change k c e f .retained ≡ 0
-open-change kind.Unknown c e f ih t = ih t
-open-change kind.Contribution c e f ih t = ih t
-open-change kind.AddedCustomer c e f ih t = ih t
-open-change kind.Bill c e f ih t = ih t
-open-change kind.Payment c e f ih t = ih t
-open-change kind.Deposit c e f ih t = ih t
-open-change kind.DepositReturn c e f ih t = ih t
-open-change kind.Expiry c e f ih t = absurd (true≢false t)
-open-change kind.Correction c e f ih t = ih t
-
 still-open : (h : History) (e : Raw) → fate h e .closed ≡ false → fate h e .retained ≡ 0
 unfolding fate
-still-open [] e t = refl
-still-open (c ∷ h) e t = go (λ q. still-open h e q) (names c e) t
-  where
-    go : (fate h e .closed ≡ false → fate h e .retained ≡ 0) → (u : Bool) →
-        cond u (change (kindOf (c .kind)) c e (fate h e)) (fate h e) .closed ≡ false →
-        cond u (change (kindOf (c .kind)) c e (fate h e)) (fate h e) .retained ≡ 0
-    go ih true q = open-change (kindOf (c .kind)) c e (fate h e) ih q
-    go ih false q = ih q
+still-open [] e = λ t. refl
+still-open (c ∷ h) e =
+    let ih = still-open h e in
+    fate-cases (λ f. f .closed ≡ false → f .retained ≡ 0) (names c e) (kindOf (c .kind)) c e (fate h e) ih ih (λ t. absurd (true≢false t)) ih
 
 uncorrectable : (bill : Bool) → kind.Contribution ≡ correctable bill → ⊥
 uncorrectable true q = omega (arith, ap numberOf q)

@@ -34,26 +34,17 @@ use Rattle.history.specs.Laws.{Valid, empty, joins}
 use Rattle.history.specs.Agreement.{keptData, dataIn, keptEntry, keptChain, Kept}
 use Rattle.history.specs.Queries.{entriesOf, statementBy, statementIn, contributionBy, contributionIn}
 use Rattle.history.proofs.Accept.{and-left, and-right, accepts, fits, InRange, correctable}
+use Rattle.history.proofs.Names.{fate-cases}
 use Rattle.history.proofs.Bound.{large, standing-small}
 use Rattle.history.proofs.Agree.{agreement}
 
 -- what is held only falls
-held-change : (t : Bool) (k : Kind) (c e : Raw) (f : Fate) (own : ℕ) → f .held ≤ own → cond t (change k c e f) f .held ≤ own
-held-change true kind.Unknown c e f own l = l
-held-change true kind.Contribution c e f own l = l
-held-change true kind.AddedCustomer c e f own l = omega arith
-held-change true kind.Bill c e f own l = l
-held-change true kind.Payment c e f own l = l
-held-change true kind.Deposit c e f own l = l
-held-change true kind.DepositReturn c e f own l = l
-held-change true kind.Expiry c e f own l = omega arith
-held-change true kind.Correction c e f own l = l
-held-change false k c e f own l = l
-
 held-small : (h : History) (e : Raw) → fate h e .held ≤ e .amount
 unfolding fate
 held-small [] e = omega arith
-held-small (c ∷ h) e = held-change (names c e) (kindOf (c .kind)) c e (fate h e) (e .amount) (held-small h e)
+held-small (c ∷ h) e =
+    let ih = held-small h e in
+    fate-cases (λ f. f .held ≤ e .amount) (names c e) (kindOf (c .kind)) c e (fate h e) ih (omega arith) (omega arith) ih
 
 some-small : (t : Bool) (x : ℕ) → x ≤ large → cond t x 0 ≤ large
 some-small true x l = l
@@ -144,22 +135,19 @@ module _ (all : History) where
   standing-read true h e = reads (kindOf (e .kind)) e (fate all e) _ _ .1
   standing-read false h e = reads (kindOf (e .kind)) e (fate all e) _ _ .2
 
-fitting : (n : ℕ) → n ≤ most → min n most ≡ n
-fitting n l = min-eq-left l
-
 -- STATEMENT
 module _ {b : Book} {h : History} (w : Kept b h) where
   held-fits : (a : ℕ) → min (totalOf chains.heldOf (keptChain h h a)) most ≡ total heldOf h h a
   held-fits a =
       rw (chain-total chains.heldOf heldOf h a (held-read h) h)
-      (fitting _ (omega (arith, fits (w .valid), total-small heldOf h a (λ e s. some-small (sameOf (kindOf (e .kind)) kind.Contribution) (fate h e .held) (omega (arith, held-small h e, s .amount))) (w .valid))))
+      (min-eq-left (omega (arith, fits (w .valid), total-small heldOf h a (λ e s. some-small (sameOf (kindOf (e .kind)) kind.Contribution) (fate h e .held) (omega (arith, held-small h e, s .amount))) (w .valid))))
 
   standing-fits : (bill : Bool) (a n : ℕ) →
       let l = correctable bill in min (totalOf (standingOf l) (take n (keptChain h h a))) most ≡ total (standingAmount l) h (take n (entriesOf h a)) a
   standing-fits bill a n =
       let l = correctable bill in
       rw (chain-taken (standingOf l) (standingAmount l) h a (standing-read h bill) h n)
-      (fitting _ (omega (arith, fits (w .valid), taken-small (standingAmount l) h a (λ e s. some-small (sameOf (kindOf (e .kind)) l) (fate h e .standing) (standing-small (w .valid) e s)) (w .valid) n)))
+      (min-eq-left (omega (arith, fits (w .valid), taken-small (standingAmount l) h a (λ e s. some-small (sameOf (kindOf (e .kind)) l) (fate h e .standing) (standing-small (w .valid) e s)) (w .valid) n)))
 
   given-same : (a n : ℕ) → 1 ≤ a → a ≤ accounts → givenOf (accountAt b a) (chainAt b a) n ≡ statementBy 0 h a n
   unfolding givenOf
