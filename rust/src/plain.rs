@@ -8,6 +8,7 @@ mod image;
 mod posting;
 mod query;
 
+pub use image::{parse_record, write_record};
 pub use query::{ContributionReply, StatementReply};
 
 /// Accounts of every book, numbered from 1.

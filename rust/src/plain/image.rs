@@ -77,7 +77,8 @@ fn write_header(header: &mut [u8], count: u16) {
     header[4..6].copy_from_slice(&count.to_le_bytes());
 }
 
-fn write_record(record: &mut [u8], raw: &Raw, next: u16) {
+/// Writes an entry and its next index to a record of 24 bytes.
+pub fn write_record(record: &mut [u8], raw: &Raw, next: u16) {
     record[0] = raw.kind;
     record[1] = raw.node;
     record[2..4].copy_from_slice(&raw.account.to_le_bytes());
@@ -91,8 +92,8 @@ fn write_record(record: &mut [u8], raw: &Raw, next: u16) {
     record[23] = raw.named_node;
 }
 
-/// A record's entry and its next index.
-fn parse_record(record: &[u8]) -> (Raw, u16) {
+/// The entry and the next index of a record of 24 bytes.
+pub fn parse_record(record: &[u8]) -> (Raw, u16) {
     let raw = Raw {
         kind: record[0],
         node: record[1],
