@@ -28,10 +28,9 @@ pub fn compare(
     tally: &mut Tally,
 ) -> Result<(), Box<Difference>> {
     let mut calls = List::new(list);
-    for place in 1.. {
-        let Some(call) = calls.next_call() else {
-            break;
-        };
+    let mut place = 0;
+    while let Some(call) = calls.next_call() {
+        place += 1;
         let expected = expected(&call);
         let mut after = call.clone();
         let answer = library(&mut after);

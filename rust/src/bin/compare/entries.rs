@@ -12,37 +12,78 @@ const MAX_RATE: u16 = 2_000;
 /// The days after a contribution from which an expiry may come and an added
 /// customer may not.
 const REFUND_DAYS: u16 = 1_826;
+/// A deposit of an odd number of times these cents, at this rate, earns an
+/// interest that ends in one half in an odd number of times these days.
+const HALF_DEPOSIT: u32 = 250;
+const HALF_RATE: u16 = 100;
+const HALF_DAYS: u16 = 73;
 /// How many entries are drawn for one of a given refusal number.
 const DRAWS: usize = 128;
 
+/// What the entries of a list are drawn from.
+pub struct Pool {
+    pub accounts: Vec<u16>,
+    /// The kinds, the more frequent ones more than once.
+    kinds: Vec<u8>,
+    least_amount: u32,
+}
+
+impl Pool {
+    /// A few accounts; contributions, bills or payments, which need no earlier
+    /// entry, and any other kinds; amounts of all sizes or, for sums above 32
+    /// bits, large ones.
+    pub fn new(random: &mut Random) -> Pool {
+        let count = 1 + random.below(4);
+        let accounts = (0..count).map(|_| any_account(random)).collect();
+        let mut kinds = vec![CONTRIBUTION, random.pick(&[BILL, PAYMENT])];
+        kinds.extend((0..6).map(|_| random.within(CONTRIBUTION..=CORRECTION)));
+        Pool {
+            accounts,
+            kinds,
+            least_amount: random.pick(&[1, 1, 1, MAX_AMOUNT / 10 * 9]),
+        }
+    }
+
+    fn amount(&self, random: &mut Random) -> u32 {
+        random.sized(MAX_AMOUNT).max(self.least_amount)
+    }
+}
+
+fn any_account(random: &mut Random) -> u16 {
+    match random.below(4) {
+        0 => random.pick(&[1, 128]),
+        _ => random.within(1..=128),
+    }
+}
+
 /// An entry that the book accepts, or refuses by any number, half the time
 /// each.
-pub fn offered(random: &mut Random, accounts: &[u16], history: &History) -> Raw {
+pub fn offered(random: &mut Random, pool: &Pool, history: &History) -> Raw {
     let refusal = match random.below(2) {
         0 => 0,
         _ => random.within(1..=16),
     };
-    aimed(random, accounts, history, refusal)
+    aimed(random, pool, history, refusal)
 }
 
 /// An entry that the book refuses by this number, or accepts where it is 0;
 /// some other where none is among the first draws.
-pub fn aimed(random: &mut Random, accounts: &[u16], history: &History, refusal: u8) -> Raw {
-    let mut raw = entry(random, accounts, history);
+pub fn aimed(random: &mut Random, pool: &Pool, history: &History, refusal: u8) -> Raw {
+    let mut raw = entry(random, pool, history);
     for _ in 0..DRAWS {
         if history.refusal(&raw) == refusal {
             break;
         }
-        raw = entry(random, accounts, history);
+        raw = entry(random, pool, history);
     }
     raw
 }
 
 /// An entry for one of the accounts, where no fault gives it another.
-pub fn entry(random: &mut Random, accounts: &[u16], history: &History) -> Raw {
-    let kind = random.within(CONTRIBUTION..=CORRECTION);
+pub fn entry(random: &mut Random, pool: &Pool, history: &History) -> Raw {
+    let kind = random.pick(&pool.kinds);
     let node = random.pick(&[1, 2]);
-    let account = random.pick(accounts);
+    let account = random.pick(&pool.accounts);
     let earlier = earlier(random, history, kind, account);
     let day = match earlier {
         Some(earlier) => day_from(random, kind, earlier.day),
@@ -54,7 +95,7 @@ pub fn entry(random: &mut Random, accounts: &[u16], history: &History) -> Raw {
         account,
         day,
         serial: serial(random, history.last_serial(node)),
-        ..fields(random, kind, earlier)
+        ..fields(random, pool, kind, earlier)
     };
     if needs_name(kind) {
         name(random, &mut raw, earlier);
@@ -97,10 +138,13 @@ fn any_day(random: &mut Random) -> u16 {
 
 /// A day before or after that of the earlier entry.
 fn day_from(random: &mut Random, kind: u8, earlier: u16) -> u16 {
-    let edges = [0, 1, REFUND_DAYS - 1, REFUND_DAYS, REFUND_DAYS + 1];
+    let edges = match kind {
+        DEPOSIT_RETURN => [0, 1, HALF_DAYS, 3 * HALF_DAYS, 5 * HALF_DAYS],
+        _ => [0, 1, REFUND_DAYS - 1, REFUND_DAYS, REFUND_DAYS + 1],
+    };
     let day = match random.below(8) {
         0 => return random.within(0..=earlier),
-        1 => random.within(earlier..=LAST_DAY.max(earlier)),
+        1 => random.within(earlier..=LAST_DAY),
         2 | 3 => earlier + random.pick(&edges),
         _ if kind == EXPIRY => earlier + REFUND_DAYS + random.within(0..=REFUND_DAYS),
         _ => earlier + random.within(0..=REFUND_DAYS - 1),
@@ -121,17 +165,19 @@ fn serial(random: &mut Random, last: u32) -> u32 {
 }
 
 /// The amount, a and b of an entry of this kind.
-fn fields(random: &mut Random, kind: u8, earlier: Option<Raw>) -> Raw {
+fn fields(random: &mut Random, pool: &Pool, kind: u8, earlier: Option<Raw>) -> Raw {
+    let amount = pool.amount(random);
     let (amount, a, b) = match kind {
-        CONTRIBUTION => (amount(random), random.sized(u16::MAX), phases(random)),
+        CONTRIBUTION => (amount, random.sized(u16::MAX), phases(random)),
         ADDED_CUSTOMER => (0, metres_shared(random, earlier), phases(random)),
         BILL => {
             let period = random.within(1..=MAX_PERIOD);
-            (amount(random), period, days_served(random, period))
+            (amount, period, days_served(random, period))
         }
-        PAYMENT => (amount(random), 0, 0),
-        DEPOSIT => (amount(random), random.sized(MAX_RATE + 1) - 1, 0),
-        CORRECTION => (corrected_amount(random, earlier), 0, 0),
+        PAYMENT => (amount, 0, 0),
+        DEPOSIT if random.one_in(4) => (HALF_DEPOSIT * odd(random), HALF_RATE, 0),
+        DEPOSIT => (amount, random.sized(MAX_RATE + 1) - 1, 0),
+        CORRECTION => (corrected_amount(random, amount, earlier), 0, 0),
         _ => (0, 0, 0),
     };
     Raw {
@@ -142,8 +188,8 @@ fn fields(random: &mut Random, kind: u8, earlier: Option<Raw>) -> Raw {
     }
 }
 
-fn amount(random: &mut Random) -> u32 {
-    random.sized(MAX_AMOUNT)
+fn odd(random: &mut Random) -> u32 {
+    1 + 2 * random.within(0..=999)
 }
 
 fn phases(random: &mut Random) -> u8 {
@@ -168,12 +214,12 @@ fn metres_shared(random: &mut Random, earlier: Option<Raw>) -> u16 {
     }
 }
 
-/// Sometimes the amount that the named entry was given.
-fn corrected_amount(random: &mut Random, earlier: Option<Raw>) -> u32 {
+/// This amount, none, or the one that the named entry was given.
+fn corrected_amount(random: &mut Random, amount: u32, earlier: Option<Raw>) -> u32 {
     match (random.below(4), earlier) {
         (0, Some(earlier)) => earlier.amount,
         (1, _) => 0,
-        _ => amount(random),
+        _ => amount,
     }
 }
 
@@ -214,11 +260,12 @@ fn break_other_field(random: &mut Random, raw: &mut Raw) {
         return;
     }
     let any = random.next();
+    let past_period = (raw.a as u8).wrapping_add(1);
     match random.below(5) {
         0 => raw.amount = random.pick(&[0, 1, MAX_AMOUNT, MAX_AMOUNT + 1, any as u32]),
         1 => raw.named_serial = random.pick(&[0, 1, any as u32]),
         2 => raw.a = random.pick(&[0, 1, MAX_PERIOD + 1, MAX_RATE, MAX_RATE + 1, any as u16]),
-        3 => raw.b = random.pick(&[0, 1, 2, 3, 4, MAX_PERIOD as u8 + 1, any as u8]),
+        3 => raw.b = random.pick(&[0, 1, 2, 3, 4, past_period, any as u8]),
         _ => raw.named_node = random.pick(&[0, 1, 2, 3, any as u8]),
     }
 }

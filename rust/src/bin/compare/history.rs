@@ -1,4 +1,4 @@
-//! The entries that a book accepted, in order.
+//! A plain book and the entries that it accepted, in order.
 
 use contribution_book::plain::*;
 
@@ -16,14 +16,11 @@ impl History {
         }
     }
 
-    /// Posts the entry, which joins the history unless it is refused; gives
-    /// its refusal number, or 0.
-    pub fn offer(&mut self, raw: &Raw) -> u8 {
-        let refusal = self.book.post(raw).refusal;
-        if refusal == 0 {
+    /// Posts the entry, which joins the history unless it is refused.
+    pub fn offer(&mut self, raw: &Raw) {
+        if self.book.post(raw).refusal == 0 {
             self.entries.push(*raw);
         }
-        refusal
     }
 
     /// What a posting of the entry is refused by, or 0.

@@ -1,6 +1,6 @@
 //! Damaged images.
 
-use crate::entries;
+use crate::entries::{self, Pool};
 use crate::history::History;
 use crate::random::Random;
 use contribution_book::plain::{write_record, ENTRIES, RECORD};
@@ -44,30 +44,18 @@ impl Kind {
 }
 
 /// The image of the history, damaged or, by chance, not.
-pub fn damaged(random: &mut Random, accounts: &[u16], history: &History) -> (Kind, Vec<u8>) {
-    let kind = match random.below(16) {
-        0 => Kind::Length,
-        1 => Kind::Header,
-        2 => Kind::Count,
-        3 | 4 => Kind::NextIndex,
-        5 => Kind::LeftOut,
-        6 => Kind::Byte,
-        7 => Kind::Random,
-        _ => Kind::Entry,
-    };
+pub fn damaged(random: &mut Random, pool: &Pool, history: &History) -> (Kind, Vec<u8>) {
     let image = history.image();
-    let damaged = match kind {
-        Kind::Saved => image,
-        Kind::Length => other_length(random, image),
-        Kind::Header => other_header(random, image),
-        Kind::Count => other_count(random, image),
-        Kind::Entry => other_entry(random, accounts, history),
-        Kind::NextIndex => other_next_index(random, image),
-        Kind::LeftOut => left_out(random, image),
-        Kind::Byte => other_byte(random, image),
-        Kind::Random => random_bytes(random),
-    };
-    (kind, damaged)
+    match random.below(16) {
+        0 => (Kind::Length, other_length(random, image)),
+        1 => (Kind::Header, other_header(random, image)),
+        2 => (Kind::Count, other_count(random, image)),
+        3 | 4 => (Kind::NextIndex, other_next_index(random, image)),
+        5 => (Kind::LeftOut, left_out(random, image)),
+        6 => (Kind::Byte, other_byte(random, image)),
+        7 => (Kind::Random, random_bytes(random)),
+        _ => (Kind::Entry, other_entry(random, pool, history)),
+    }
 }
 
 fn other_length(random: &mut Random, mut image: Vec<u8>) -> Vec<u8> {
@@ -105,12 +93,15 @@ fn other_count(random: &mut Random, mut image: Vec<u8>) -> Vec<u8> {
 /// An entry made for the history up to its place, where it may be refused by
 /// any of 1 to 16; with the next index that it would get. The records after
 /// it stay or are left out.
-fn other_entry(random: &mut Random, accounts: &[u16], history: &History) -> Vec<u8> {
+fn other_entry(random: &mut Random, pool: &Pool, history: &History) -> Vec<u8> {
     let count = history.entries().len();
     let place = random.below((count + 1).min(ENTRIES));
     let before = history.first(place);
-    let refusal = random.within(1..=16);
-    let raw = entries::aimed(random, accounts, &before, refusal);
+    let refusal = match random.below(2) {
+        0 => random.within(1..=16),
+        _ => random.within(10..=16),
+    };
+    let raw = entries::aimed(random, pool, &before, refusal);
     let mut record = [0; RECORD];
     write_record(&mut record, &raw, before.newest(raw.account));
 

@@ -2,7 +2,7 @@
 //! over. Its seed decides everything in it.
 
 use crate::call::{Buffer, Call, Request};
-use crate::entries;
+use crate::entries::{self, Pool};
 use crate::expected::Expected;
 use crate::history::History;
 use crate::images::{self, Kind};
@@ -12,8 +12,7 @@ use contribution_book::proved::LONGEST;
 
 pub struct List {
     random: Random,
-    /// The accounts that most entries and queries are for.
-    accounts: Vec<u16>,
+    pool: Pool,
     history: History,
     /// How many calls are still to come.
     calls: usize,
@@ -22,17 +21,18 @@ pub struct List {
 impl List {
     pub fn new(seed: u64) -> List {
         let mut random = Random::new(seed);
-        let accounts = accounts(&mut random);
+        let pool = Pool::new(&mut random);
+        // A load takes time for each record, so most books are short.
         let count = match random.below(64) {
             0 => ENTRIES - random.below(3),
             1 => random.below(ENTRIES),
             _ => random.below(40),
         };
-        let history = begun(&mut random, &accounts, count);
+        let history = begun(&mut random, &pool, count);
         let calls = 20 + random.below(40);
         List {
             random,
-            accounts,
+            pool,
             history,
             calls,
         }
@@ -50,7 +50,7 @@ impl List {
         };
         let (image_kind, image) = match self.random.below(2) {
             0 => (Kind::Saved, self.history.image()),
-            _ => images::damaged(&mut self.random, &self.accounts, &self.history),
+            _ => images::damaged(&mut self.random, &self.pool, &self.history),
         };
         Some(Call {
             image_kind,
@@ -75,7 +75,7 @@ impl List {
     }
 
     fn post(&mut self) -> Request {
-        let raw = entries::offered(&mut self.random, &self.accounts, &self.history);
+        let raw = entries::offered(&mut self.random, &self.pool, &self.history);
         let mut entry = self.record(&raw);
         if self.random.one_in(16) {
             let length = self.random.pick(&[0, 1, 23, 25, 48]);
@@ -98,7 +98,7 @@ impl List {
         let mut history = self.history.clone();
         let mut run = Vec::new();
         for _ in 0..count {
-            let raw = entries::offered(&mut self.random, &self.accounts, &history);
+            let raw = entries::offered(&mut self.random, &self.pool, &history);
             history.offer(&raw);
             run.extend(self.record(&raw));
         }
@@ -150,11 +150,11 @@ impl List {
     }
 
     fn contribution(&mut self) -> Request {
-        let kind = self.random.pick(&[CONTRIBUTION, 0]);
-        let fits = |raw: &&Raw| kind == 0 || raw.kind == kind;
+        let any = self.random.one_in(2);
+        let fits = |raw: &&Raw| any || raw.kind == CONTRIBUTION;
         let entries: Vec<&Raw> = self.history.entries().iter().filter(fits).collect();
         let mut raw = match entries.len() {
-            0 => entries::entry(&mut self.random, &self.accounts, &self.history),
+            0 => entries::entry(&mut self.random, &self.pool, &self.history),
             _ => *self.random.pick(&entries),
         };
         if self.random.one_in(8) {
@@ -164,7 +164,7 @@ impl List {
             raw.node = self.random.pick(&[0, 1, 2, 3, 255]);
         }
         if self.random.one_in(8) {
-            raw.serial = self.random.pick(&[0, raw.serial + 1, u32::MAX]);
+            raw.serial = self.random.pick(&[0, raw.serial.wrapping_add(1), u32::MAX]);
         }
         Request::Contribution {
             account: raw.account,
@@ -178,27 +178,17 @@ impl List {
         match self.random.below(8) {
             0 => self.random.pick(&[0, 129, 257, u16::MAX]),
             1 => self.random.within(0..=130),
-            _ => self.random.pick(&self.accounts),
+            _ => self.random.pick(&self.pool.accounts),
         }
     }
 }
 
-fn accounts(random: &mut Random) -> Vec<u16> {
-    let count = 1 + random.below(4);
-    (0..count)
-        .map(|_| match random.below(4) {
-            0 => random.pick(&[1, 128]),
-            _ => random.within(1..=128),
-        })
-        .collect()
-}
-
 /// A history of so many entries. None has the last serial, after which its
 /// node could write no more.
-fn begun(random: &mut Random, accounts: &[u16], count: usize) -> History {
+fn begun(random: &mut Random, pool: &Pool, count: usize) -> History {
     let mut history = History::empty();
     while history.entries().len() < count {
-        let raw = entries::entry(random, accounts, &history);
+        let raw = entries::entry(random, pool, &history);
         if raw.serial < u32::MAX {
             history.offer(&raw);
         }

@@ -22,8 +22,8 @@ impl Random {
         (self.next() % length as u64) as usize
     }
 
-    pub fn one_in(&mut self, length: usize) -> bool {
-        self.below(length) == 0
+    pub fn one_in(&mut self, times: usize) -> bool {
+        self.below(times) == 0
     }
 
     pub fn pick<T: Copy>(&mut self, list: &[T]) -> T {

@@ -22,7 +22,7 @@ type Possible = fn(u8) -> bool;
 const OF_IMAGES: Possible = |number| number <= 20 && number != 7;
 const OF_ENTRIES: Possible = |number| number <= 16;
 /// By each kind of call on an accepted image.
-const OF_CALLS: [Possible; 5] = [
+const OF_CALLS: [Possible; KINDS.len()] = [
     |number| number == 0,
     |number| number <= 17 || number == 21,
     |number| matches!(number, 0 | 17 | 21 | 22),
@@ -89,27 +89,27 @@ type Judged = [u64; 2];
 
 pub struct Tally {
     /// The images of each kind of call.
-    images: [Met; 5],
+    images: [Met; KINDS.len()],
     /// The calls of each kind on accepted images.
-    calls: [Met; 5],
+    calls: [Met; KINDS.len()],
     /// Entries carried over.
     carried: Met,
     /// The images of each of `images::Kind::ALL`.
-    image_kinds: [Judged; 9],
-    sizes: [u64; 4],
+    image_kinds: [Judged; images::Kind::ALL.len()],
+    sizes: [u64; SIZES.len()],
     /// Entries of each kind, posted or carried over.
-    entry_kinds: [Judged; 9],
+    entry_kinds: [Judged; ENTRY_KINDS.len()],
 }
 
 impl Tally {
     pub fn new() -> Tally {
         Tally {
-            images: [Met::none(OF_IMAGES); 5],
+            images: [Met::none(OF_IMAGES); KINDS.len()],
             calls: OF_CALLS.map(Met::none),
             carried: Met::none(OF_ENTRIES),
-            image_kinds: [[0; 2]; 9],
-            sizes: [0; 4],
-            entry_kinds: [[0; 2]; 9],
+            image_kinds: [[0; 2]; images::Kind::ALL.len()],
+            sizes: [0; SIZES.len()],
+            entry_kinds: [[0; 2]; ENTRY_KINDS.len()],
         }
     }
 
@@ -168,7 +168,7 @@ impl Tally {
             add(images, &format!("image of {name}"));
             add(calls, name);
         }
-        add(&self.carried, "entry carried over");
+        add(&self.carried, "entry carried");
         for (name, [accepted, _]) in ENTRY_KINDS.iter().zip(self.entry_kinds).skip(1) {
             if accepted < LEAST {
                 shortages.push(format!("{name}: accepted fewer than {LEAST} times"));
@@ -189,15 +189,12 @@ fn size(entries: usize) -> usize {
 
 impl fmt::Display for Tally {
     fn fmt(&self, out: &mut fmt::Formatter) -> fmt::Result {
-        writeln!(
-            out,
-            "Images by refusal number (0: accepted) and kind of call"
-        )?;
+        writeln!(out, "Images by refusal number (0: accepted)")?;
         write_met(out, &KINDS, &self.images)?;
         writeln!(out, "\nCalls on accepted images by refusal number")?;
         let mut names = KINDS.to_vec();
         let mut columns = self.calls.to_vec();
-        names.push("entry carried over");
+        names.push("entry carried");
         columns.push(self.carried);
         write_met(out, &names, &columns)?;
         writeln!(out, "\nImages by kind")?;
@@ -214,24 +211,29 @@ impl fmt::Display for Tally {
 
 /// A column for each, a row for each refusal number.
 fn write_met(out: &mut fmt::Formatter, names: &[&str], columns: &[Met]) -> fmt::Result {
-    write!(out, "{:>8}", "refusal")?;
-    for name in names {
-        write!(out, "  {name:>12}")?;
-    }
-    writeln!(out)?;
+    write_row(out, "refusal", names.iter().map(|name| name.to_string()))?;
     for number in 0..NUMBERS {
-        write!(out, "{number:>8}")?;
-        for (name, met) in names.iter().zip(columns) {
-            let width = name.len().max(12);
-            write!(out, "  {:>width$}", met.cell(number))?;
-        }
-        writeln!(out)?;
+        let cells = columns.iter().map(|met| met.cell(number));
+        write_row(out, &number.to_string(), cells)?;
     }
-    Ok(())
+    let totals = columns.iter().map(|met| met.total().to_string());
+    write_row(out, "all", totals)
+}
+
+fn write_row(
+    out: &mut fmt::Formatter,
+    name: &str,
+    cells: impl Iterator<Item = String>,
+) -> fmt::Result {
+    write!(out, "{name:>8}")?;
+    for cell in cells {
+        write!(out, " {cell:>13}")?;
+    }
+    writeln!(out)
 }
 
 fn write_judged(out: &mut fmt::Formatter, names: &[String], rows: &[Judged]) -> fmt::Result {
-    writeln!(out, "{:>16} {:>10} {:>10}", "", "accepted", "refused")?;
+    writeln!(out, "{:>16} {:>10} {:>10}", "kind", "accepted", "refused")?;
     for (name, [accepted, refused]) in names.iter().zip(rows) {
         writeln!(out, "{name:>16} {accepted:>10} {refused:>10}")?;
     }

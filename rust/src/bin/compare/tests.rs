@@ -107,7 +107,9 @@ const BUFFER_SLIPS: [(&str, Slip); 5] = [
         }
     }),
     ("the image read", |call, _| {
-        call.image.memory[20] ^= 1;
+        if let Some(byte) = call.image.bytes_mut().last_mut() {
+            *byte = !*byte;
+        }
     }),
 ];
 
