@@ -10,11 +10,13 @@ fn main() {
     if env::var_os("CARGO_FEATURE_PROVED").is_none() {
         return;
     }
+    let package = env::var("CARGO_MANIFEST_DIR").expect("cargo sets it");
     let folder = env::var("CONTRIBUTION_BOOK_LIB").unwrap_or("../target/staticlib".into());
-    let archive = Path::new(&folder).join("libcontribution_book.a");
+    let folder = Path::new(&package).join(folder);
+    let archive = folder.join("libcontribution_book.a");
     println!("cargo::rerun-if-changed={}", archive.display());
     if archive.is_file() {
-        println!("cargo::rustc-link-search=native={folder}");
+        println!("cargo::rustc-link-search=native={}", folder.display());
         println!("cargo::rustc-link-lib=static=contribution_book");
     } else {
         println!(

@@ -9,7 +9,7 @@ mod posting;
 mod query;
 
 pub(crate) use image::check_header;
-pub use image::parse_record;
+pub use image::{parse_record, write_record};
 pub use query::{ContributionReply, StatementReply};
 
 /// Accounts of every book, numbered from 1.

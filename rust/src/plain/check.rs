@@ -81,6 +81,11 @@ fn in_range(raw: &Raw) -> bool {
 }
 
 impl Book {
+    /// What a posting of the entry is refused by, or 0.
+    pub fn refusal(&self, raw: &Raw) -> u8 {
+        self.check(raw).err().unwrap_or(0)
+    }
+
     /// Refusals 1 to 16 of a posting.
     pub(super) fn check(&self, raw: &Raw) -> Checked {
         check_fields(raw)?;

@@ -82,7 +82,8 @@ fn write_header(header: &mut [u8], count: u16) {
     header[4..6].copy_from_slice(&count.to_le_bytes());
 }
 
-fn write_record(record: &mut [u8], raw: &Raw, next: u16) {
+/// Writes an entry and its next index to a record of 24 bytes.
+pub fn write_record(record: &mut [u8], raw: &Raw, next: u16) {
     record[0] = raw.kind;
     record[1] = raw.node;
     record[2..4].copy_from_slice(&raw.account.to_le_bytes());

@@ -1,0 +1,271 @@
+//! Random entries: in and out of range, and with every relation to the entry
+//! that they name.
+
+use crate::history::History;
+use crate::random::Random;
+use contribution_book::plain::*;
+
+const LAST_DAY: u16 = 36_524;
+const MAX_AMOUNT: u32 = 100_000_000;
+const MAX_PERIOD: u16 = 62;
+const MAX_RATE: u16 = 2_000;
+/// The days after a contribution from which an expiry may come and an added
+/// customer may not.
+const REFUND_DAYS: u16 = 1_826;
+/// A deposit of an odd number of times these cents, at this rate, earns an
+/// interest that ends in one half in an odd number of times these days.
+const HALF_DEPOSIT: u32 = 250;
+const HALF_RATE: u16 = 100;
+const HALF_DAYS: u16 = 73;
+/// How many entries are drawn for one of a given refusal number.
+const DRAWS: usize = 128;
+
+/// What the entries of a list are drawn from.
+pub struct Pool {
+    pub accounts: Vec<u16>,
+    /// The kinds, the more frequent ones more than once.
+    kinds: Vec<u8>,
+    least_amount: u32,
+}
+
+impl Pool {
+    /// A few accounts; contributions, bills or payments, which need no earlier
+    /// entry, and any other kinds; amounts of all sizes or, for sums above 32
+    /// bits, large ones.
+    pub fn new(random: &mut Random) -> Pool {
+        let count = 1 + random.below(4);
+        let accounts = (0..count).map(|_| any_account(random)).collect();
+        let mut kinds = vec![CONTRIBUTION, random.pick(&[BILL, PAYMENT])];
+        kinds.extend((0..6).map(|_| random.within(CONTRIBUTION..=CORRECTION)));
+        Pool {
+            accounts,
+            kinds,
+            least_amount: random.pick(&[1, 1, 1, MAX_AMOUNT / 10 * 9]),
+        }
+    }
+
+    fn amount(&self, random: &mut Random) -> u32 {
+        random.sized(MAX_AMOUNT).max(self.least_amount)
+    }
+}
+
+fn any_account(random: &mut Random) -> u16 {
+    match random.below(4) {
+        0 => random.pick(&[1, 128]),
+        _ => random.within(1..=128),
+    }
+}
+
+/// An entry that the book accepts, or refuses by any number, half the time
+/// each.
+pub fn offered(random: &mut Random, pool: &Pool, history: &History) -> Raw {
+    let refusal = match random.below(2) {
+        0 => 0,
+        _ => random.within(1..=16),
+    };
+    aimed(random, pool, history, refusal)
+}
+
+/// An entry that the book refuses by this number, or accepts where it is 0;
+/// some other where none is among the first draws.
+pub fn aimed(random: &mut Random, pool: &Pool, history: &History, refusal: u8) -> Raw {
+    let mut raw = entry(random, pool, history);
+    for _ in 0..DRAWS {
+        if history.refusal(&raw) == refusal {
+            break;
+        }
+        raw = entry(random, pool, history);
+    }
+    raw
+}
+
+/// An entry for one of the accounts, where no fault gives it another.
+pub fn entry(random: &mut Random, pool: &Pool, history: &History) -> Raw {
+    let kind = random.pick(&pool.kinds);
+    let node = random.pick(&[1, 2]);
+    let account = random.pick(&pool.accounts);
+    let earlier = earlier(random, history, kind, account);
+    let day = match earlier {
+        Some(earlier) => day_from(random, kind, earlier.day),
+        None => any_day(random),
+    };
+    let mut raw = Raw {
+        kind,
+        node,
+        account,
+        day,
+        serial: serial(random, history.last_serial(node)),
+        ..fields(random, pool, kind, earlier)
+    };
+    if needs_name(kind) {
+        name(random, &mut raw, earlier);
+    }
+    break_common_field(random, &mut raw);
+    break_other_field(random, &mut raw);
+    raw
+}
+
+fn needs_name(kind: u8) -> bool {
+    matches!(kind, ADDED_CUSTOMER | EXPIRY | CORRECTION)
+}
+
+/// The entry that a new one of this kind is about: mostly one that it may
+/// name or return, sometimes any of the book.
+fn earlier(random: &mut Random, history: &History, kind: u8, account: u16) -> Option<Raw> {
+    let kinds: &[u8] = match kind {
+        ADDED_CUSTOMER | EXPIRY => &[CONTRIBUTION],
+        CORRECTION => &[BILL, PAYMENT],
+        DEPOSIT_RETURN => &[DEPOSIT],
+        _ => return None,
+    };
+    let any = random.one_in(16);
+    let fits = |raw: &&Raw| any || raw.account == account && kinds.contains(&raw.kind);
+    let fitting: Vec<&Raw> = history.entries().iter().filter(fits).collect();
+    match kind {
+        DEPOSIT_RETURN => fitting.last().copied().copied(),
+        _ if fitting.is_empty() => None,
+        _ => Some(*random.pick(&fitting)),
+    }
+}
+
+fn any_day(random: &mut Random) -> u16 {
+    match random.below(4) {
+        0 => random.pick(&[0, 1, LAST_DAY - 1, LAST_DAY]),
+        1 => random.within(0..=LAST_DAY),
+        _ => random.within(0..=4 * REFUND_DAYS),
+    }
+}
+
+/// A day before or after that of the earlier entry.
+fn day_from(random: &mut Random, kind: u8, earlier: u16) -> u16 {
+    let edges = match kind {
+        DEPOSIT_RETURN => [0, 1, HALF_DAYS, 3 * HALF_DAYS, 5 * HALF_DAYS],
+        _ => [0, 1, REFUND_DAYS - 1, REFUND_DAYS, REFUND_DAYS + 1],
+    };
+    let day = match random.below(8) {
+        0 => return random.within(0..=earlier),
+        1 => random.within(earlier..=LAST_DAY),
+        2 | 3 => earlier + random.pick(&edges),
+        _ if kind == EXPIRY => earlier + REFUND_DAYS + random.within(0..=REFUND_DAYS),
+        _ => earlier + random.within(0..=REFUND_DAYS - 1),
+    };
+    day.min(LAST_DAY)
+}
+
+/// A serial above the node's last, where there is one.
+fn serial(random: &mut Random, last: u32) -> u32 {
+    match u32::MAX - last {
+        0 => last,
+        room => match random.below(512) {
+            0 => u32::MAX,
+            1..=4 => last + random.within(1..=room / 2 + 1),
+            _ => last + random.within(1..=room.min(3)),
+        },
+    }
+}
+
+/// The amount, a and b of an entry of this kind.
+fn fields(random: &mut Random, pool: &Pool, kind: u8, earlier: Option<Raw>) -> Raw {
+    let amount = pool.amount(random);
+    let (amount, a, b) = match kind {
+        CONTRIBUTION => (amount, random.sized(u16::MAX), phases(random)),
+        ADDED_CUSTOMER => (0, metres_shared(random, earlier), phases(random)),
+        BILL => {
+            let period = random.within(1..=MAX_PERIOD);
+            (amount, period, days_served(random, period))
+        }
+        PAYMENT => (amount, 0, 0),
+        DEPOSIT if random.one_in(4) => (HALF_DEPOSIT * odd(random), HALF_RATE, 0),
+        DEPOSIT => (amount, random.sized(MAX_RATE + 1) - 1, 0),
+        CORRECTION => (corrected_amount(random, amount, earlier), 0, 0),
+        _ => (0, 0, 0),
+    };
+    Raw {
+        amount,
+        a,
+        b,
+        ..Raw::default()
+    }
+}
+
+fn odd(random: &mut Random) -> u32 {
+    1 + 2 * random.within(0..=999)
+}
+
+fn phases(random: &mut Random) -> u8 {
+    random.pick(&[1, 3])
+}
+
+fn days_served(random: &mut Random, period: u16) -> u8 {
+    match random.below(4) {
+        0 => period as u8,
+        _ => random.within(0..=period as u8),
+    }
+}
+
+/// Metres at, below or above those built, where a contribution is named.
+fn metres_shared(random: &mut Random, earlier: Option<Raw>) -> u16 {
+    let built = earlier.map_or(u16::MAX, |raw| raw.a.max(1));
+    match random.below(8) {
+        0 => built.saturating_add(1),
+        1 => random.within(built..=u16::MAX),
+        2 | 3 => built,
+        _ => random.within(1..=built),
+    }
+}
+
+/// This amount, none, or the one that the named entry was given.
+fn corrected_amount(random: &mut Random, amount: u32, earlier: Option<Raw>) -> u32 {
+    match (random.below(4), earlier) {
+        (0, Some(earlier)) => earlier.amount,
+        (1, _) => 0,
+        _ => amount,
+    }
+}
+
+/// Mostly names the earlier entry.
+fn name(random: &mut Random, raw: &mut Raw, earlier: Option<Raw>) {
+    let earlier = earlier.filter(|_| !random.one_in(16));
+    (raw.named_node, raw.named_serial) = match earlier {
+        Some(earlier) => (earlier.node, earlier.serial),
+        None => (random.pick(&[1, 2]), random.sized(u32::MAX)),
+    };
+}
+
+/// Now and then breaks a common field, by 1 to 4 or 6.
+fn break_common_field(random: &mut Random, raw: &mut Raw) {
+    let any = random.next();
+    if random.one_in(64) {
+        raw.kind = random.pick(&[0, 9, 255, any as u8]);
+    }
+    if random.one_in(64) {
+        raw.node = random.pick(&[0, 3, 255, any as u8]);
+    }
+    if random.one_in(64) {
+        raw.account = random.pick(&[0, 129, 130, 257, any as u16]);
+    }
+    if random.one_in(64) {
+        raw.day = random.pick(&[LAST_DAY + 1, LAST_DAY + 2, u16::MAX, any as u16]);
+    }
+    if random.one_in(32) {
+        let lower = raw.serial.saturating_sub(random.within(1..=4));
+        raw.serial = random.pick(&[lower, lower / 2, 0]);
+    }
+}
+
+/// Now and then gives another field a value that is at or past the edge of
+/// some kind's range.
+fn break_other_field(random: &mut Random, raw: &mut Raw) {
+    if !random.one_in(32) {
+        return;
+    }
+    let any = random.next();
+    let past_period = (raw.a as u8).wrapping_add(1);
+    match random.below(5) {
+        0 => raw.amount = random.pick(&[0, 1, MAX_AMOUNT, MAX_AMOUNT + 1, any as u32]),
+        1 => raw.named_serial = random.pick(&[0, 1, any as u32]),
+        2 => raw.a = random.pick(&[0, 1, MAX_PERIOD + 1, MAX_RATE, MAX_RATE + 1, any as u16]),
+        3 => raw.b = random.pick(&[0, 1, 2, 3, 4, past_period, any as u8]),
+        _ => raw.named_node = random.pick(&[0, 1, 2, 3, any as u8]),
+    }
+}

@@ -1,0 +1,144 @@
+//! What the plain book makes of a call: it loads the image, answers the
+//! request and saves.
+
+use crate::call::{Answer, Call, Request};
+use contribution_book::plain::*;
+use contribution_book::proved::{Carried, Checked, ContributionGiven, Posted, StatementGiven};
+
+pub struct Expected {
+    pub answer: Answer,
+    /// The call with its buffers as they are afterwards.
+    pub after: Call,
+    pub refusal: u8,
+    pub image_refused: bool,
+}
+
+/// What a request gives, or its refusal number.
+type Given<T> = Result<T, u8>;
+
+pub fn expected(call: &Call) -> Expected {
+    let mut after = call.clone();
+    let (mut book, image_refusal, record) = Book::load(call.image.bytes());
+    let given = accept(image_refusal).and_then(|()| answer(&mut book, &mut after.request));
+    Expected {
+        answer: given.unwrap_or_else(|refusal| call.request.refused(refusal, record)),
+        after,
+        refusal: given.err().unwrap_or(0),
+        image_refused: image_refusal != 0,
+    }
+}
+
+fn accept(refusal: u8) -> Given<()> {
+    match refusal {
+        0 => Ok(()),
+        _ => Err(refusal),
+    }
+}
+
+fn answer(book: &mut Book, request: &mut Request) -> Given<Answer> {
+    Ok(match request {
+        Request::Check => Answer::Checked(Checked {
+            entries: book.count() as u16,
+            ..Checked::default()
+        }),
+        Request::Post { entry, output } => {
+            Answer::Posted(post(book, entry.bytes(), output.bytes_mut())?)
+        }
+        Request::CarryOver {
+            run,
+            results,
+            output,
+        } => Answer::Carried(carry_over(
+            book,
+            run.bytes(),
+            results.bytes_mut(),
+            output.bytes_mut(),
+        )?),
+        &mut Request::Statement { account, allowance } => {
+            Answer::Statement(statement(book, account, allowance)?)
+        }
+        &mut Request::Contribution {
+            account,
+            node,
+            serial,
+        } => Answer::Contribution(contribution(book, account, node, serial)?),
+    })
+}
+
+fn post(book: &mut Book, entry: &[u8], output: &mut [u8]) -> Given<Posted> {
+    if entry.len() != RECORD {
+        return Err(17);
+    }
+    let reply = book.post(&parse_record(entry).0);
+    accept(reply.refusal)?;
+    Ok(Posted {
+        refusal: 0,
+        record: 0,
+        number: reply.number,
+        bytes: save(book, output)?,
+        settled: reply.settled,
+        paid_out: reply.paid_out,
+        retained: reply.retained,
+        interest: reply.interest,
+    })
+}
+
+fn carry_over(
+    book: &mut Book,
+    run: &[u8],
+    results: &mut [u8],
+    output: &mut [u8],
+) -> Given<Carried> {
+    let entries = run.chunks_exact(RECORD);
+    if !entries.remainder().is_empty() {
+        return Err(17);
+    }
+    let entries: Vec<Raw> = entries.map(|record| parse_record(record).0).collect();
+    let mut written = results.to_vec();
+    accept(book.carry_over(&entries, &mut written))?;
+    let bytes = save(book, output)?;
+    results.copy_from_slice(&written);
+    Ok(Carried {
+        refusal: 0,
+        record: 0,
+        bytes,
+    })
+}
+
+fn save(book: &Book, output: &mut [u8]) -> Given<usize> {
+    let (refusal, bytes) = book.save(output);
+    accept(refusal).map(|()| bytes)
+}
+
+fn statement(book: &Book, account: u16, allowance: u64) -> Given<StatementGiven> {
+    let reply = book.statement(account, allowance);
+    accept(reply.refusal)?;
+    Ok(StatementGiven {
+        refusal: 0,
+        record: 0,
+        links_read: reply.links_read as u16,
+        complete: reply.complete,
+        arrears: reply.arrears,
+        credit: reply.credit,
+        deposit: reply.deposit,
+        held: reply.held,
+        bills: reply.bills,
+        payments: reply.payments,
+    })
+}
+
+fn contribution(book: &Book, account: u16, node: u8, serial: u32) -> Given<ContributionGiven> {
+    let reply = book.contribution_query(account, node, serial);
+    accept(reply.refusal)?;
+    Ok(ContributionGiven {
+        refusal: 0,
+        record: 0,
+        added: reply.customers,
+        closed: reply.closed,
+        amount: reply.amount,
+        to_arrears: reply.to_arrears,
+        paid_out: reply.paid_out,
+        held: reply.held,
+        retained: reply.retained,
+    })
+}

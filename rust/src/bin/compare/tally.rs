@@ -1,0 +1,241 @@
+//! What was tried: calls, images and entries by kind and by refusal number.
+
+use crate::call::{Request, KINDS};
+use crate::expected::Expected;
+use crate::images;
+use contribution_book::plain::{parse_record, ENTRIES, RECORD};
+use std::fmt;
+
+/// How often each refusal number that can be given has to be met, and each
+/// kind of entry accepted.
+const LEAST: u64 = 100;
+/// How many calls have to be compared.
+const LEAST_CALLS: u64 = 100_000;
+
+/// Document 01's refusal numbers, with 0 for accepted.
+const NUMBERS: u8 = 23;
+
+/// Whether a refusal number can be met.
+type Possible = fn(u8) -> bool;
+
+/// By an image. 7 can't: 17 comes before it.
+const OF_IMAGES: Possible = |number| number <= 20 && number != 7;
+const OF_ENTRIES: Possible = |number| number <= 16;
+/// By each kind of call on an accepted image.
+const OF_CALLS: [Possible; KINDS.len()] = [
+    |number| number == 0,
+    |number| number <= 17 || number == 21,
+    |number| matches!(number, 0 | 17 | 21 | 22),
+    |number| matches!(number, 0 | 3),
+    |number| matches!(number, 0 | 2 | 3 | 8),
+];
+
+const ENTRY_KINDS: [&str; 9] = [
+    "none of 1 to 8",
+    "contribution",
+    "added customer",
+    "bill",
+    "payment",
+    "deposit",
+    "deposit return",
+    "expiry",
+    "correction",
+];
+
+/// Accepted images by their number of entries.
+const SIZES: [&str; 4] = ["0", "1 to 99", "100 to 1,023", "1,024"];
+
+/// How often each refusal number was met.
+#[derive(Clone, Copy)]
+struct Met {
+    possible: Possible,
+    counts: [u64; NUMBERS as usize],
+}
+
+impl Met {
+    fn none(possible: Possible) -> Met {
+        Met {
+            possible,
+            counts: [0; NUMBERS as usize],
+        }
+    }
+
+    fn add(&mut self, refusal: u8) {
+        self.counts[usize::from(refusal)] += 1;
+    }
+
+    fn total(&self) -> u64 {
+        self.counts.iter().sum()
+    }
+
+    /// The numbers that were not met often enough.
+    fn rare(&self) -> impl Iterator<Item = u8> + '_ {
+        let rare = |number: &u8| self.counts[usize::from(*number)] < LEAST;
+        (0..NUMBERS)
+            .filter(|&number| (self.possible)(number))
+            .filter(rare)
+    }
+
+    fn cell(&self, number: u8) -> String {
+        match self.counts[usize::from(number)] {
+            0 if !(self.possible)(number) => "-".into(),
+            count => count.to_string(),
+        }
+    }
+}
+
+/// How often something was accepted, and how often refused.
+type Judged = [u64; 2];
+
+pub struct Tally {
+    /// The images of each kind of call.
+    images: [Met; KINDS.len()],
+    /// The calls of each kind on accepted images.
+    calls: [Met; KINDS.len()],
+    /// Entries carried over.
+    carried: Met,
+    /// The images of each of `images::Kind::ALL`.
+    image_kinds: [Judged; images::Kind::ALL.len()],
+    sizes: [u64; SIZES.len()],
+    /// Entries of each kind, posted or carried over.
+    entry_kinds: [Judged; ENTRY_KINDS.len()],
+}
+
+impl Tally {
+    pub fn new() -> Tally {
+        Tally {
+            images: [Met::none(OF_IMAGES); KINDS.len()],
+            calls: OF_CALLS.map(Met::none),
+            carried: Met::none(OF_ENTRIES),
+            image_kinds: [[0; 2]; images::Kind::ALL.len()],
+            sizes: [0; SIZES.len()],
+            entry_kinds: [[0; 2]; ENTRY_KINDS.len()],
+        }
+    }
+
+    /// How many calls were compared.
+    pub fn total(&self) -> u64 {
+        self.images.iter().map(Met::total).sum()
+    }
+
+    pub fn count(&mut self, expected: &Expected) {
+        let call = &expected.after;
+        let kind = call.request.kind();
+        self.image_kinds[call.image_kind as usize][usize::from(expected.image_refused)] += 1;
+        if expected.image_refused {
+            self.images[kind].add(expected.refusal);
+            return;
+        }
+        self.images[kind].add(0);
+        self.sizes[size(call.image.bytes().len() / RECORD - 1)] += 1;
+        self.calls[kind].add(expected.refusal);
+        self.count_entries(&call.request, expected.refusal);
+    }
+
+    /// Counts the entries that an accepted image was offered.
+    fn count_entries(&mut self, request: &Request, refusal: u8) {
+        match request {
+            Request::Post { entry, .. } if refusal < 17 => {
+                self.count_entry(entry.bytes(), refusal);
+            }
+            Request::CarryOver { run, results, .. } if refusal == 0 => {
+                for (record, &refusal) in run.bytes().chunks_exact(RECORD).zip(results.bytes()) {
+                    self.carried.add(refusal);
+                    self.count_entry(record, refusal);
+                }
+            }
+            _ => {}
+        }
+    }
+
+    fn count_entry(&mut self, record: &[u8], refusal: u8) {
+        let kind = usize::from(parse_record(record).0.kind);
+        let row = if kind < ENTRY_KINDS.len() { kind } else { 0 };
+        self.entry_kinds[row][usize::from(refusal != 0)] += 1;
+    }
+
+    /// What was not tried often enough, a line for each.
+    pub fn shortages(&self) -> Vec<String> {
+        let mut shortages = Vec::new();
+        if self.total() < LEAST_CALLS {
+            shortages.push(format!("fewer than {LEAST_CALLS} calls"));
+        }
+        let mut add = |met: &Met, what: &str| {
+            let line = |number| format!("{what}: refusal number {number} fewer than {LEAST} times");
+            shortages.extend(met.rare().map(line));
+        };
+        for ((name, images), calls) in KINDS.iter().zip(&self.images).zip(&self.calls) {
+            add(images, &format!("image of {name}"));
+            add(calls, name);
+        }
+        add(&self.carried, "entry carried");
+        for (name, [accepted, _]) in ENTRY_KINDS.iter().zip(self.entry_kinds).skip(1) {
+            if accepted < LEAST {
+                shortages.push(format!("{name}: accepted fewer than {LEAST} times"));
+            }
+        }
+        shortages
+    }
+}
+
+fn size(entries: usize) -> usize {
+    match entries {
+        0 => 0,
+        1..=99 => 1,
+        ENTRIES => 3,
+        _ => 2,
+    }
+}
+
+impl fmt::Display for Tally {
+    fn fmt(&self, out: &mut fmt::Formatter) -> fmt::Result {
+        writeln!(out, "Images by refusal number (0: accepted)")?;
+        write_met(out, &KINDS, &self.images)?;
+        writeln!(out, "\nCalls on accepted images by refusal number")?;
+        let mut names = KINDS.to_vec();
+        let mut columns = self.calls.to_vec();
+        names.push("entry carried");
+        columns.push(self.carried);
+        write_met(out, &names, &columns)?;
+        writeln!(out, "\nImages by kind")?;
+        let image_kinds = images::Kind::ALL.map(|kind| format!("{kind:?}"));
+        write_judged(out, &image_kinds, &self.image_kinds)?;
+        writeln!(out, "\nAccepted images by number of entries")?;
+        for (name, count) in SIZES.iter().zip(self.sizes) {
+            writeln!(out, "{name:>16} {count:>10}")?;
+        }
+        writeln!(out, "\nEntries posted or carried over by kind")?;
+        write_judged(out, &ENTRY_KINDS.map(String::from), &self.entry_kinds)
+    }
+}
+
+/// A column for each, a row for each refusal number.
+fn write_met(out: &mut fmt::Formatter, names: &[&str], columns: &[Met]) -> fmt::Result {
+    write_row(out, "refusal", names.iter().map(|name| name.to_string()))?;
+    for number in 0..NUMBERS {
+        let cells = columns.iter().map(|met| met.cell(number));
+        write_row(out, &number.to_string(), cells)?;
+    }
+    let totals = columns.iter().map(|met| met.total().to_string());
+    write_row(out, "all", totals)
+}
+
+fn write_row(
+    out: &mut fmt::Formatter,
+    name: &str,
+    cells: impl Iterator<Item = String>,
+) -> fmt::Result {
+    write!(out, "{name:>8}")?;
+    for cell in cells {
+        write!(out, " {cell:>13}")?;
+    }
+    writeln!(out)
+}
+
+fn write_judged(out: &mut fmt::Formatter, names: &[String], rows: &[Judged]) -> fmt::Result {
+    writeln!(out, "{:>16} {:>10} {:>10}", "kind", "accepted", "refused")?;
+    for (name, [accepted, refused]) in names.iter().zip(rows) {
+        writeln!(out, "{name:>16} {accepted:>10} {refused:>10}")?;
+    }
+    Ok(())
+}
