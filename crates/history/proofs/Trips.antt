@@ -46,7 +46,7 @@ one-call b (contribution account node serial) = refl
 one-call b (save buffer) = refl
 
 all-calls : (b : Book) (cs : List Call) → bookAfter b cs ≡ postedAll b (offered cs)
-unfolding bookAfter offered
+unfolding offered
 all-calls b [] = refl
 all-calls b (c ∷ cs) =
     all-calls (callBook b c) cs ∙ ap (λ (x : Book). postedAll x (offered cs)) (one-call b c) ∙ posted-append b (offeredBy c) (offered cs)
