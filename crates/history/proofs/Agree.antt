@@ -46,7 +46,7 @@ use Rattle.history.specs.History.{History, accounts, entries, lastSerial
 use Rattle.history.specs.Laws.{Valid, empty, joins}
 use Rattle.history.specs.Agreement.{newestOf, keptAccount, keptData, dataIn, keptEntry, keptChain, Rows, start, more, Agrees, Kept, Agreement}
 use Rattle.history.proofs.Accept.{accepts, fits, named-none, Sort, as-contribution, as-added, as-bill, as-payment, as-deposit, as-return, as-expiry, as-correction, correctable, sorted, Role, alone, upon, role}
-use Rattle.history.proofs.Names.{hit, unnamed, no-customers, plain, misses-kind, hits, names-points, fate-miss, fate-hit, customers-miss, customers-hit, customers-other}
+use Rattle.history.proofs.Names.{hit, fate-new, customers-new, misses-kind, hits, names-points, fate-hit, customers-hit, customers-other}
 use Rattle.history.proofs.Moves.{named-at, move-contribution, move-bill, move-payment, move-deposit, move-return, move-added, move-expiry, move-correction, corrects}
 use Rattle.history.proofs.Conserve.{postedAs, divide}
 use Rattle.history.proofs.Bound.{in-ranges, billed-small, interest-small, added-small, standing-small, bounded}
@@ -118,18 +118,8 @@ module _ {b : Book} {h : History} (w : Agrees b h) (v : Valid h) (r : Raw) (j : 
   unfolding entryOf
   data-at i e k f = ap (λ (x : Entry). x .«data») (entry-at i e k f ∙ kept-found h (b .entries) (w .rows) r i e f .1)
 
-  data-new : naming (kindOf (r .kind)) ≡ false → dataIn (r ∷ h) r ≡ keptData (kindOf (r .kind)) r (posted r) 0 0
-  data-new k =
-      let n = plain r r k in
-      let fresh = accepts h r j .serial-above in
-      rw (
-        fate-miss r h r n,
-        unnamed v r fresh,
-        customers-miss (λ (y : Amounts). y .settled) r h r n,
-        customers-miss (λ (y : Amounts). y .paidOut) r h r n,
-        no-customers v (λ (y : Amounts). y .settled) r fresh,
-        no-customers v (λ (y : Amounts). y .paidOut) r fresh,
-      ) refl
+  data-new : dataIn (r ∷ h) r ≡ keptData (kindOf (r .kind)) r (posted r) 0 0
+  data-new = rw (fate-new v r j, customers-new v (λ (y : Amounts). y .settled) r j, customers-new v (λ (y : Amounts). y .paidOut) r j) refl
 
   abbrev Effect : Move → Data → Sought → Data → Type 0
   Effect m new s named′ =
@@ -165,29 +155,29 @@ module _ {b : Book} {h : History} (w : Agrees b h) (v : Valid h) (r : Raw) (j : 
 
   effect-by : Sort h r → Effect (moveBy h r bal) (dataIn (r ∷ h) r) (named h r) (newNamed h r (named h r))
   effect-by (as-contribution k) =
-      close stays (keptData kind.Contribution r (posted r) 0 0) missing data′.Unused (move-contribution h r bal k) (data-new (ap naming k) ∙ (rw k refl)) (named-none h r (ap naming k)) refl
+      close stays (keptData kind.Contribution r (posted r) 0 0) missing data′.Unused (move-contribution h r bal k) (data-new ∙ (rw k refl)) (named-none h r (ap naming k)) refl
       (rw (account-at, k) (contribution-effect r bal last (lookupOf b r) (namedAt b r .«data»)))
   effect-by (as-bill k) =
       let s = accepts h r j .ranges in
       let n = accepts h r j .room in
       let x = billed (r .amount) (r .b) (r .a) in
       let small = billed-small (r .amount) (r .b) (r .a) (s .amount) (s .b) (s .a) in
-      close (charges x) (keptData kind.Bill r (postedAs kind.Bill r) 0 0) missing data′.Unused (move-bill h r bal k) (data-new (ap naming k) ∙ (rw k refl)) (named-none h r (ap naming k)) refl
+      close (charges x) (keptData kind.Bill r (postedAs kind.Bill r) 0 0) missing data′.Unused (move-bill h r bal k) (data-new ∙ (rw k refl)) (named-none h r (ap naming k)) refl
       (rw (account-at, k) (bill-effect r bal last (lookupOf b r) (namedAt b r .«data») (postedAs kind.Bill r) (s .amount) (omega (arith, s .b)) (omega (arith, bounded v (r .account) .arrears)) refl refl))
   effect-by (as-payment k) =
       let s = accepts h r j .ranges in
       let n = accepts h r j .room in
-      close (credits (r .amount)) (keptData kind.Payment r (postedAs kind.Payment r) 0 0) missing data′.Unused (move-payment h r bal k) (data-new (ap naming k) ∙ (rw k refl)) (named-none h r (ap naming k)) refl
+      close (credits (r .amount)) (keptData kind.Payment r (postedAs kind.Payment r) 0 0) missing data′.Unused (move-payment h r bal k) (data-new ∙ (rw k refl)) (named-none h r (ap naming k)) refl
       (rw (account-at, k) (payment-effect r bal last (lookupOf b r) (namedAt b r .«data») (postedAs kind.Payment r) (omega (arith, s .amount, bounded v (r .account) .credit)) refl refl))
   effect-by (as-deposit k z a) =
-      close (deposits (r .amount) (r .a) (r .day)) (keptData kind.Deposit r (posted r) 0 0) missing data′.Unused (move-deposit h r bal k) (data-new (ap naming k) ∙ (rw k refl)) (named-none h r (ap naming k)) refl
+      close (deposits (r .amount) (r .a) (r .day)) (keptData kind.Deposit r (posted r) 0 0) missing data′.Unused (move-deposit h r bal k) (data-new ∙ (rw k refl)) (named-none h r (ap naming k)) refl
       (rw (account-at, k) (deposit-effect r bal last (lookupOf b r) (namedAt b r .«data»)))
   effect-by (as-return k) =
       let bd = bounded v (r .account) in
       let day = accepts h r j .day in
       let small = interest-small (bal .deposit) (bal .rate) (r .day - bal .deposited) (bd .deposit) (bd .rate) (omega arith) in
       close (returns (interest (bal .deposit) (bal .rate) (r .day - bal .deposited))) (keptData kind.DepositReturn r (posted r) 0 0) missing data′.Unused (move-return h r bal k)
-      (data-new (ap naming k) ∙ (rw k refl)) (named-none h r (ap naming k)) refl
+      (data-new ∙ (rw k refl)) (named-none h r (ap naming k)) refl
       (rw (account-at, k) (return-effect r bal last (lookupOf b r) (namedAt b r .«data») (bd .deposit) (bd .rate) day (omega arith)))
   effect-by (as-added k i e f c d) =
       let x = refundOf r e (fate h e) in

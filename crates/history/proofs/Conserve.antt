@@ -14,8 +14,8 @@ use Rattle.rules.specs.Formulas.{billed, interest}
 use Rattle.rules.specs.Moves.{settles, leaves}
 use Rattle.history.specs.History.{History, naming, names, found, find, Fate, fateOf, posted, refundOf, change, fate, Balance, Move, stays, charges, credits, refunds, deposits, returns, retains, moved, moveBy, balance, Amounts, answered, amounts, judge, total, amountOf, standingAmount, heldOf, addedUp, toArrears, refundsPaid}
 use Rattle.history.specs.Laws.{Valid, empty, joins, In, newest, older, Conserved, Divided}
-use Rattle.history.proofs.Accept.{accepts, Sort, as-contribution, as-added, as-bill, as-payment, as-deposit, as-return, as-expiry, as-correction, correctable, sorted, Role, alone, upon, role}
-use Rattle.history.proofs.Names.{pointed, hit, unnamed, no-customers, Misses, none, miss, Hits, first, later, plain, misses-kind, hits, names-found, names-points, fate-cases, fate-miss, fate-hit, customers-miss, customers-hit, customers-other}
+use Rattle.history.proofs.Accept.{Sort, as-contribution, as-added, as-bill, as-payment, as-deposit, as-return, as-expiry, as-correction, correctable, sorted, Role, alone, upon, role}
+use Rattle.history.proofs.Names.{pointed, hit, fate-new, customers-new, Misses, none, miss, Hits, first, later, plain, misses-kind, hits, names-found, names-points, fate-cases, fate-miss, fate-hit, customers-miss, customers-hit, customers-other}
 use Rattle.history.proofs.Moves.{move-contribution, move-bill, move-payment, move-deposit, move-return, move-added, move-expiry, move-correction, corrects, restates-cases}
 
 -- a sum as the history grows, whatever is read off the entries
@@ -163,7 +163,7 @@ module _ {h : History} (v : Valid h) (r : Raw) (j : judge h r ≡ 0) where
   unfolding total
   here-plain k =
       shift (λ f. total f h h (r .account)) (λ f. total f (r ∷ h) (r ∷ h) (r .account)) (λ f. f (kindOf (r .kind)) r (posted r)) (λ f. 0) (λ f. 0)
-      (λ f. rw (private-same, total-miss f r h (r .account) (misses-kind r k h), fate-miss r h r (plain r r k), unnamed v r (accepts h r j .serial-above)) (omega arith))
+      (λ f. rw (private-same, total-miss f r h (r .account) (misses-kind r k h), fate-new v r j) (omega arith))
 
   here-named : naming (kindOf (r .kind)) ≡ true → (i : ℕ) (e : Raw) → find h r ≡ found i e →
       Shifted (sums h) (sums (r ∷ h)) (each (λ f. f (kindOf (r .kind)) r (fate (r ∷ h) r))) (each (λ f. f (kindOf (e .kind)) e (fate h e)))
@@ -242,18 +242,9 @@ uncorrectable false q = omega (arith, ap numberOf q)
 
 module _ {h : History} (v : Valid h) (r : Raw) (j : judge h r ≡ 0) where
   -- the contribution that joins
-  divided-new : kindOf (r .kind) ≡ kind.Contribution → Divided (r ∷ h) r
-  divided-new k =
-      let fresh = accepts h r j .serial-above in
-      rw (
-        fate-miss r h r (plain r r (ap naming k)),
-        unnamed v r fresh,
-        customers-other (λ (x : Amounts). x .settled) r h r (ap (λ (l : Kind). sameOf l kind.AddedCustomer) k),
-        customers-other (λ (x : Amounts). x .paidOut) r h r (ap (λ (l : Kind). sameOf l kind.AddedCustomer) k),
-        no-customers v (λ (x : Amounts). x .settled) r fresh,
-        no-customers v (λ (x : Amounts). x .paidOut) r fresh,
-      )
-      (omega arith)
+  divided-new : Divided (r ∷ h) r
+  divided-new =
+      rw (fate-new v r j, customers-new v (λ (x : Amounts). x .settled) r j, customers-new v (λ (x : Amounts). x .paidOut) r j) (omega arith)
 
   divided-miss : (e : Raw) → names r e ≡ false → Divided h e → Divided (r ∷ h) e
   divided-miss e n l =
@@ -301,7 +292,7 @@ module _ {h : History} (v : Valid h) (r : Raw) (j : judge h r ≡ 0) where
 
 pub divide : {h : History} → Valid h → (e : Raw) → In e h → kindOf (e .kind) ≡ kind.Contribution → Divided h e
 divide (joins {r} {h} v j) e (newest q) c =
-    subst (λ y. Divided (r ∷ h) y) q (divided-new v r j (subst (λ (y : Raw). kindOf (y .kind) ≡ kind.Contribution) (sym q) c))
+    subst (λ y. Divided (r ∷ h) y) q (divided-new v r j)
 divide (joins {r} {h} v j) e (older t) c = go (divide v e t c) (names r e) refl
   where
     go : Divided h e → (u : Bool) → names r e ≡ u → Divided (r ∷ h) e

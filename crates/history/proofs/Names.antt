@@ -155,19 +155,26 @@ unfolding ofCustomers
 customers-other f c h x k = rw k (omega arith)
 
 -- an entry whose serial is new has the fate of a posted one
-pub unnamed : {h : History} → Valid h → (r : Raw) → lastSerial h (r .node) < r .serial → fate h r ≡ posted r
+unnamed : {h : History} → Valid h → (r : Raw) → lastSerial h (r .node) < r .serial → fate h r ≡ posted r
 unfolding fate
 unnamed empty r n = refl
 unnamed (joins {r = c} {h} v j) r n =
     let before : lastSerial h (r .node) < r .serial = omega (arith, last-up h c (r .node) j) in
     fate-miss c h r (named-old v c r (role h c (sorted h c j)) before) ∙ unnamed v r before
 
-pub no-customers : {h : History} → Valid h → (f : Amounts → ℕ) (r : Raw) → lastSerial h (r .node) < r .serial → ofCustomers f h r ≡ 0
+no-customers : {h : History} → Valid h → (f : Amounts → ℕ) (r : Raw) → lastSerial h (r .node) < r .serial → ofCustomers f h r ≡ 0
 unfolding ofCustomers
 no-customers empty f r n = refl
 no-customers (joins {r = c} {h} v j) f r n =
     let before : lastSerial h (r .node) < r .serial = omega (arith, last-up h c (r .node) j) in
     customers-miss f c h r (named-old v c r (role h c (sorted h c j)) before) ∙ no-customers v f r before
+
+-- so has one that joins, and no added customer is its own
+pub fate-new : {h : History} → Valid h → (r : Raw) → judge h r ≡ 0 → fate (r ∷ h) r ≡ posted r
+fate-new {h} v r j = fate-miss r h r (not-itself v r j) ∙ unnamed v r (accepts h r j .serial-above)
+
+pub customers-new : {h : History} → Valid h → (f : Amounts → ℕ) (r : Raw) → judge h r ≡ 0 → ofCustomers f (r ∷ h) r ≡ 0
+customers-new {h} v f r j = customers-miss f r h r (not-itself v r j) ∙ no-customers v f r (accepts h r j .serial-above)
 
 -- c names nothing of a list
 pub data Misses (c : Raw) : History → Type 0 where
