@@ -1,5 +1,8 @@
 //! The contribution book of document 01 for Rust hosts.
 
+pub mod by_value;
 pub mod plain;
+pub mod printer;
 #[cfg(feature = "proved")]
 pub mod proved;
+pub mod samples;

@@ -8,6 +8,7 @@ mod image;
 mod posting;
 mod query;
 
+pub(crate) use image::check_header;
 pub use image::{parse_record, write_record};
 pub use query::{ContributionReply, StatementReply};
 

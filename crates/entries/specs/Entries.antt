@@ -52,10 +52,9 @@ correctableOf k standing corrected =
 abbrev pub otherOf : Kind → Named
 otherOf k = correctableOf k (cents 0) false
 
--- what they read of every entry; of a contribution its amount, metres, phases, what is held, the customers added and whether it is closed
-unfoldable pub namedOf : Data → Named
-namedOf Unused = otherOf kind.Unknown
-namedOf (Contribution amount built phases held toArrears paidOut retained added closed) =
+-- what they read of a contribution: its amount, metres, phases, what is held, the customers added and whether it is closed
+abbrev pub contributionOf : Cents → Metres → ℕ → Cents → ℕ → Bool → Named
+contributionOf amount built phases held added closed =
     record {
       kind = kind.Contribution;
       amount = amount;
@@ -67,6 +66,11 @@ namedOf (Contribution amount built phases held toArrears paidOut retained added 
       standing = cents 0;
       corrected = false;
     }
+
+-- what they read of every entry
+unfoldable pub namedOf : Data → Named
+namedOf Unused = otherOf kind.Unknown
+namedOf (Contribution amount built phases held toArrears paidOut retained added closed) = contributionOf amount built phases held added closed
 namedOf (AddedCustomer node serial shared phases) = otherOf kind.AddedCustomer
 namedOf (Bill charge period served standing corrected) = correctableOf kind.Bill standing corrected
 namedOf (Payment amount standing corrected) = correctableOf kind.Payment standing corrected

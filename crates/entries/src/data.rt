@@ -4,7 +4,7 @@ use measures::Cents;
 use measures::Day;
 use measures::Metres;
 ghost use mathlib.Core.Path.{_≡_};
-ghost use Rattle.entries.specs.Entries.{noEntry, otherOf, correctableOf, oneMore, namedOf, refundedOf, expiredOf, restatedOf, withOf};
+ghost use Rattle.entries.specs.Entries.{noEntry, otherOf, correctableOf, contributionOf, oneMore, namedOf, refundedOf, expiredOf, restatedOf, withOf};
 
 // What was posted and what became of it, by kind. The case is the kind.
 pub enum Data {
@@ -101,6 +101,30 @@ impl Named {
             corrected,
         }
     }
+
+    // What the rules read of a contribution.
+    fn contribution(
+        amount: Cents,
+        built: Metres,
+        phases: u8,
+        held: Cents,
+        added: u16,
+        closed: bool,
+    ) -> Named
+        ensures { λ r. ⌜ r ≡ contributionOf amount built phases held added closed ⌝ }
+    {
+        Named {
+            kind: Kind::Contribution,
+            amount,
+            built,
+            phases,
+            held,
+            added,
+            closed,
+            standing: Cents(0),
+            corrected: false,
+        }
+    }
 }
 
 // One more, and the largest number where that does not fit.
@@ -123,17 +147,7 @@ impl Data {
                 added,
                 closed,
                 ..
-            } => Named {
-                kind: Kind::Contribution,
-                amount,
-                built,
-                phases,
-                held,
-                added,
-                closed,
-                standing: Cents(0),
-                corrected: false,
-            },
+            } => Named::contribution(amount, built, phases, held, added, closed),
             Data::Bill {
                 standing,
                 corrected,

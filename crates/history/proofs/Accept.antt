@@ -45,41 +45,17 @@ silent (x ∷ xs) n e = go (λ q. silent xs (n .1) q) (x .broken) refl e
     go ih false p q = (p, ih q)
 
 -- THE RANGES OF FIELDS
-amount-high : (k : Kind) (a : ℕ) → limitsOf k a .«amount_high» ≤ amountMost
+highs : (k : Kind) (a : ℕ) → let l = limitsOf k a in (l .«amount_high» ≤ amountMost) × (l .«a_high» ≤ 65535) × (a ≤ l .«a_high» → l .«b_high» ≤ 62)
 unfolding limitsOf
-amount-high kind.Unknown a = omega arith
-amount-high kind.Contribution a = omega arith
-amount-high kind.AddedCustomer a = omega arith
-amount-high kind.Bill a = omega arith
-amount-high kind.Payment a = omega arith
-amount-high kind.Deposit a = omega arith
-amount-high kind.DepositReturn a = omega arith
-amount-high kind.Expiry a = omega arith
-amount-high kind.Correction a = omega arith
-
-a-high : (k : Kind) (a : ℕ) → limitsOf k a .«a_high» ≤ 65535
-unfolding limitsOf
-a-high kind.Unknown a = omega arith
-a-high kind.Contribution a = omega arith
-a-high kind.AddedCustomer a = omega arith
-a-high kind.Bill a = omega arith
-a-high kind.Payment a = omega arith
-a-high kind.Deposit a = omega arith
-a-high kind.DepositReturn a = omega arith
-a-high kind.Expiry a = omega arith
-a-high kind.Correction a = omega arith
-
-b-high : (k : Kind) (a : ℕ) → a ≤ limitsOf k a .«a_high» → limitsOf k a .«b_high» ≤ 62
-unfolding limitsOf
-b-high kind.Unknown a l = omega arith
-b-high kind.Contribution a l = omega arith
-b-high kind.AddedCustomer a l = omega arith
-b-high kind.Bill a l = omega arith
-b-high kind.Payment a l = omega arith
-b-high kind.Deposit a l = omega arith
-b-high kind.DepositReturn a l = omega arith
-b-high kind.Expiry a l = omega arith
-b-high kind.Correction a l = omega arith
+highs kind.Unknown a = omega arith
+highs kind.Contribution a = omega arith
+highs kind.AddedCustomer a = omega arith
+highs kind.Bill a = omega arith
+highs kind.Payment a = omega arith
+highs kind.Deposit a = omega arith
+highs kind.DepositReturn a = omega arith
+highs kind.Expiry a = omega arith
+highs kind.Correction a = omega arith
 
 b-fits : (r : Raw) (phases : Bool) (high : ℕ) → high ≤ 62 → bFits r phases high ≡ true → r .b ≤ 62
 unfolding bFits
@@ -107,10 +83,10 @@ in-range r k e =
     let amount : r .amount ≤ l .«amount_high» = leb-true _ _ (and-right (leb (l .«amount_low») (r .amount)) _ (and-left amounts _ first)) in
     let a : r .a ≤ l .«a_high» = leb-true _ _ (and-right (leb (l .«a_low») (r .a)) _ (and-left metres _ second)) in
     record {
-      amount = omega (arith, amount-high k (r .a));
-      a = omega (arith, a-high k (r .a));
+      amount = omega (arith, highs k (r .a) .0);
+      a = omega (arith, highs k (r .a) .1);
       a-kind = a;
-      b = b-fits r (l .phases) (l .«b_high») (b-high k (r .a) a) (and-right metres _ second);
+      b = b-fits r (l .phases) (l .«b_high») (highs k (r .a) .2 a) (and-right metres _ second);
     }
 
 rate-high : (a : ℕ) → limitsOf kind.Deposit a .«a_high» ≡ 2000
@@ -170,6 +146,10 @@ fits empty = omega arith
 fits (joins {r} {h} v j) = omega (arith, accepts h r j .room)
 
 -- WHAT AN ACCEPTED ENTRY IS
+-- what a correction names: a bill, or else a payment
+abbrev pub correctable : Bool → Kind
+correctable bill = cond bill kind.Bill kind.Payment
+
 module _ (h : History) (r : Raw) where
   pub data Sort : Type 0 where
     as-contribution : kindOf (r .kind) ≡ kind.Contribution → Sort
@@ -181,7 +161,7 @@ module _ (h : History) (r : Raw) where
     as-return : kindOf (r .kind) ≡ kind.DepositReturn → Sort
     as-expiry : kindOf (r .kind) ≡ kind.Expiry → (i : ℕ) (e : Raw) → find h r ≡ found i e → kindOf (e .kind) ≡ kind.Contribution → fate h e .closed ≡ false → Sort
     as-correction : kindOf (r .kind) ≡ kind.Correction → (i : ℕ) (e : Raw) → find h r ≡ found i e →
-        (b : Bool) → kindOf (e .kind) ≡ cond b kind.Bill kind.Payment → fate h e .corrected ≡ false → Sort
+        (bill : Bool) → kindOf (e .kind) ≡ correctable bill → fate h e .corrected ≡ false → Sort
 
   -- the same, as far as naming goes
   pub data Role : Type 0 where
@@ -207,7 +187,7 @@ is-contribution kind.DepositReturn e = absurd (true≢false e)
 is-contribution kind.Expiry e = absurd (true≢false e)
 is-contribution kind.Correction e = absurd (true≢false e)
 
-pub is-sum : (l : Kind) → not (sameOf l kind.Bill || sameOf l kind.Payment) ≡ false → (b : Bool) × (l ≡ cond b kind.Bill kind.Payment)
+pub is-sum : (l : Kind) → not (sameOf l kind.Bill || sameOf l kind.Payment) ≡ false → (bill : Bool) × (l ≡ correctable bill)
 is-sum kind.Unknown e = absurd (true≢false e)
 is-sum kind.Contribution e = absurd (true≢false e)
 is-sum kind.AddedCustomer e = absurd (true≢false e)
@@ -218,7 +198,7 @@ is-sum kind.DepositReturn e = absurd (true≢false e)
 is-sum kind.Expiry e = absurd (true≢false e)
 is-sum kind.Correction e = absurd (true≢false e)
 
-no-kind : kindOf 0 ≡ kind.Unknown
+pub no-kind : kindOf 0 ≡ kind.Unknown
 unfolding kindOf
 no-kind = refl
 
@@ -239,7 +219,7 @@ module _ (h : History) (r : Raw) where
       let l = is-contribution (kindOf (e .kind)) (p .suited) in
       as-expiry k i e f l (unclosed (kindOf (e .kind)) (fate h e .closed) l (p .unclosed))
 
-  uncorrected : (b : Bool) (l : Kind) (t : Bool) → l ≡ cond b kind.Bill kind.Payment → ((sameOf l kind.Bill || sameOf l kind.Payment) && t) ≡ false → t ≡ false
+  uncorrected : (bill : Bool) (l : Kind) (t : Bool) → l ≡ correctable bill → ((sameOf l kind.Bill || sameOf l kind.Payment) && t) ≡ false → t ≡ false
   uncorrected true l t k e = rw k at e
   uncorrected false l t k e = rw k at e
 

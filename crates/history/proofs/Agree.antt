@@ -41,17 +41,17 @@ use Rattle.book.specs.Posting.{accountAt, lookupOf, namedAt, rewritten, storedO
 use Rattle.book.specs.declared.Book.{Book}
 use Rattle.book.specs.declared.Serials.{Serials}
 use Rattle.queries.specs.Chain.{chainAt}
-use Rattle.history.specs.History.{History, accounts, entries, lastSerial, naming, Sought, missing, found, find, named, posted, refundOf, change, fate, entryIn, fateIn, Balance, Move, stays, charges, credits, refunds, deposits, returns, retains, restates, moved, moveBy, balance, Amounts, answered, amounts, judge, joined, offer, repliedBy, repliedOf, toArrears, refundsPaid}
+use Rattle.history.specs.History.{History, accounts, entries, lastSerial, naming, Sought, missing, found, find, named, posted, refundOf, change, fate, entryIn, fateIn, Balance, Move, stays, charges, credits, refunds, deposits, returns, retains, moved, moveBy, balance, Amounts, answered, amounts, judge, joined, offer, repliedBy, repliedOf, toArrears, refundsPaid}
 use Rattle.history.specs.Laws.{Valid, empty, joins}
 use Rattle.history.specs.Agreement.{newestOf, keptAccount, keptData, dataIn, keptEntry, keptChain, Rows, start, more, Agrees, Kept, Agreement}
-use Rattle.history.proofs.Accept.{and-left, and-right, accepts, fits, named-none, Sort, as-contribution, as-added, as-bill, as-payment, as-deposit, as-return, as-expiry, as-correction, sorted, Role, alone, upon, role}
+use Rattle.history.proofs.Accept.{and-left, and-right, accepts, fits, named-none, Sort, as-contribution, as-added, as-bill, as-payment, as-deposit, as-return, as-expiry, as-correction, correctable, sorted, Role, alone, upon, role}
 use Rattle.history.proofs.Names.{hit, unnamed, no-customers, plain, misses-kind, hits, names-points, fate-miss, fate-hit, customers-miss, customers-hit, customers-other}
-use Rattle.history.proofs.Moves.{named-at, move-contribution, move-bill, move-payment, move-deposit, move-return, move-added, move-expiry, move-bill-correction, move-payment-correction}
+use Rattle.history.proofs.Moves.{named-at, move-contribution, move-bill, move-payment, move-deposit, move-return, move-added, move-expiry, move-correction, corrects}
 use Rattle.history.proofs.Conserve.{postedAs, divide}
 use Rattle.history.proofs.Bound.{in-ranges, billed-small, interest-small, added-small, standing-small, bounded}
 use Rattle.history.proofs.Tables.{checkNumber, state-same, check-same}
 use Rattle.history.proofs.Search.{placeOf, links, chain-short, kept-found, lookup-same, alike, last-same}
-use Rattle.history.proofs.Effects.{changeBy, contribution-effect, bill-effect, payment-effect, deposit-effect, return-effect, added-effect, expiry-effect, bill-corrected, payment-corrected}
+use Rattle.history.proofs.Effects.{changeBy, contribution-effect, bill-effect, payment-effect, deposit-effect, return-effect, added-effect, expiry-effect, correction-effect}
 use Rattle.history.proofs.Stored.{slot-at, rows-past, rows-miss, rows-hit}
 
 -- THE REFUSAL
@@ -230,29 +230,17 @@ module _ {b : Book} {h : History} (w : Agrees b h) (v : Valid h) (r : Raw) (j : 
       (named-other i e f (ap naming k) (ap (λ (l : Kind). sameOf l kind.AddedCustomer) k) ∙ (rw (k, c) refl))
       (rw (data-at i e (ap naming k) f, account-at, lookup-at, named-at h r bal i e f (ap naming k), k, c)
       (expiry-effect r bal last Nothing data′.Unused e (fate h e) i (toArrears h e) (refundsPaid h e) (fate (r ∷ h) r)))
-  effect-by (as-correction k i e f true c u) =
+  effect-by (as-correction k i e f bill c u) =
       let bd = bounded v (r .account) in
       let n = accepts h r j .room in
       let small = accepts h r j .ranges .amount in
       let stands = standing-small v e (in-ranges v e (hit v r i e f .member)) in
-      close (restates (fate h e .standing) (r .amount)) (keptData kind.Correction r (fate (r ∷ h) r) 0 0) (found i e)
-      (keptData kind.Bill e (change kind.Correction r e (fate h e)) (toArrears h e) (refundsPaid h e))
-      (move-bill-correction h r bal i e f k c) (rw k refl) (named-at h r bal i e f (ap naming k))
+      close (corrects bill (fate h e .standing) (r .amount)) (keptData kind.Correction r (fate (r ∷ h) r) 0 0) (found i e)
+      (keptData (correctable bill) e (change kind.Correction r e (fate h e)) (toArrears h e) (refundsPaid h e))
+      (move-correction h r bal i e f bill k c) (rw k refl) (named-at h r bal i e f (ap naming k))
       (named-other i e f (ap naming k) (ap (λ (l : Kind). sameOf l kind.AddedCustomer) k) ∙ (rw (k, c) refl))
       (rw (data-at i e (ap naming k) f, account-at, lookup-at, named-at h r bal i e f (ap naming k), k, c)
-      (bill-corrected r bal last Nothing data′.Unused e (fate h e) i (toArrears h e) (refundsPaid h e) (fate (r ∷ h) r) (leb (fate h e .standing) (r .amount)) refl
-      (omega (arith, bd .arrears)) (omega (arith, bd .credit))))
-  effect-by (as-correction k i e f false c u) =
-      let bd = bounded v (r .account) in
-      let n = accepts h r j .room in
-      let small = accepts h r j .ranges .amount in
-      let stands = standing-small v e (in-ranges v e (hit v r i e f .member)) in
-      close (restates (r .amount) (fate h e .standing)) (keptData kind.Correction r (fate (r ∷ h) r) 0 0) (found i e)
-      (keptData kind.Payment e (change kind.Correction r e (fate h e)) (toArrears h e) (refundsPaid h e))
-      (move-payment-correction h r bal i e f k c) (rw k refl) (named-at h r bal i e f (ap naming k))
-      (named-other i e f (ap naming k) (ap (λ (l : Kind). sameOf l kind.AddedCustomer) k) ∙ (rw (k, c) refl))
-      (rw (data-at i e (ap naming k) f, account-at, lookup-at, named-at h r bal i e f (ap naming k), k, c)
-      (payment-corrected r bal last Nothing data′.Unused e (fate h e) i (toArrears h e) (refundsPaid h e) (fate (r ∷ h) r) (leb (r .amount) (fate h e .standing)) refl
+      (correction-effect r bal last Nothing data′.Unused e (fate h e) i (toArrears h e) (refundsPaid h e) (fate (r ∷ h) r) bill
       (omega (arith, bd .arrears)) (omega (arith, bd .credit))))
 
   abbrev theChange : Change

@@ -6,7 +6,7 @@ use native.Mathlib.Nat.{mul-le-mul, div-le-self}
 use mathlib.Core.Bool.{Bool, true, false, cond}
 use mathlib.Core.List.{[], _∷_}
 use lib.ListN.{length}
-use lib.Dec.{eqb, leb}
+use lib.Dec.{eqb}
 use Rattle.entries.specs.Kinds.{kindOf, sameOf}
 use Rattle.entries.specs.Ranges.{amountMost}
 use Rattle.entries.specs.declared.raw.Raw.{Raw}
@@ -16,8 +16,8 @@ use Rattle.rules.specs.Formulas.{billed, interest}
 use Rattle.history.specs.History.{History, names, Fate, change, fate, Balance, Move, stays, charges, credits, refunds, deposits, returns, retains, moved, moveBy, balance, judge}
 use Rattle.history.specs.Laws.{Valid, empty, joins, In, newest, older}
 use Rattle.history.proofs.Accept.{InRange, accepts, Sort, as-contribution, as-added, as-bill, as-payment, as-deposit, as-return, as-expiry, as-correction, sorted}
-use Rattle.history.proofs.Names.{hit}
-use Rattle.history.proofs.Moves.{move-contribution, move-bill, move-payment, move-deposit, move-return, move-added, move-expiry, move-bill-correction, move-payment-correction}
+use Rattle.history.proofs.Names.{hit, fate-cases}
+use Rattle.history.proofs.Moves.{move-contribution, move-bill, move-payment, move-deposit, move-return, move-added, move-expiry, move-correction, corrects, restates-cases}
 
 -- more than one entry can move
 abbrev pub large : ℕ
@@ -43,40 +43,19 @@ first-small e true w = billed-small (e .amount) (e .b) (e .a) (w .amount) (w .b)
 first-small e false w = omega (arith, w .amount)
 
 -- what became of an entry
-added-change : (t : Bool) (k : Kind) (c e : Raw) (n : ℕ) (f : Fate) → f .added ≤ n → cond t (change k c e f) f .added ≤ suc n
-added-change true kind.Unknown c e n f w = omega arith
-added-change true kind.Contribution c e n f w = omega arith
-added-change true kind.AddedCustomer c e n f w = omega arith
-added-change true kind.Bill c e n f w = omega arith
-added-change true kind.Payment c e n f w = omega arith
-added-change true kind.Deposit c e n f w = omega arith
-added-change true kind.DepositReturn c e n f w = omega arith
-added-change true kind.Expiry c e n f w = omega arith
-added-change true kind.Correction c e n f w = omega arith
-added-change false k c e n f w = omega arith
-
 pub added-small : (h : History) (e : Raw) → fate h e .added ≤ length h
 unfolding fate
 added-small [] e = omega arith
-added-small (c ∷ h) e = added-change (names c e) (kindOf (c .kind)) c e (length h) (fate h e) (added-small h e)
-
-standing-change : (t : Bool) (k : Kind) (c e : Raw) (f : Fate) → c .amount ≤ amountMost → f .standing ≤ large → cond t (change k c e f) f .standing ≤ large
-standing-change true kind.Unknown c e f q w = w
-standing-change true kind.Contribution c e f q w = w
-standing-change true kind.AddedCustomer c e f q w = w
-standing-change true kind.Bill c e f q w = w
-standing-change true kind.Payment c e f q w = w
-standing-change true kind.Deposit c e f q w = w
-standing-change true kind.DepositReturn c e f q w = w
-standing-change true kind.Expiry c e f q w = w
-standing-change true kind.Correction c e f q w = omega arith
-standing-change false k c e f q w = w
+added-small (c ∷ h) e =
+    let ih = added-small h e in
+    fate-cases (λ f. f .added ≤ suc (length h)) (names c e) (kindOf (c .kind)) c e (fate h e) (omega arith) (omega arith) (omega arith) (omega arith)
 
 pub standing-small : {h : History} → Valid h → (e : Raw) → InRange e (kindOf (e .kind)) → fate h e .standing ≤ large
 unfolding fate
 standing-small empty e w = first-small e (sameOf (kindOf (e .kind)) kind.Bill) w
 standing-small (joins {r} {h} v j) e w =
-    standing-change (names r e) (kindOf (r .kind)) r e (fate h e) (accepts h r j .ranges .amount) (standing-small v e w)
+    let ih = standing-small v e w in
+    fate-cases (λ f. f .standing ≤ large) (names r e) (kindOf (r .kind)) r e (fate h e) ih ih ih (omega (arith, accepts h r j .ranges .amount))
 
 -- an account's amounts
 pub record Bounded (n : ℕ) (b : Balance) : Type 0 where
@@ -104,9 +83,9 @@ moved-bounded (deposits x rate day) n b s w = omega arith
 moved-bounded (returns i) n b s w = omega arith
 moved-bounded (retains x) n b s w = omega arith
 
-modest-restates : (x y : ℕ) (t : Bool) → x ≤ large → y ≤ large → Modest (cond t (charges (y - x)) (credits (x - y)))
-modest-restates x y true p q = omega arith
-modest-restates x y false p q = omega arith
+modest-corrects : (bill : Bool) (x y : ℕ) → x ≤ large → y ≤ large → Modest (corrects bill x y)
+modest-corrects true x y p q = restates-cases Modest x y (λ l. omega arith) (λ l. omega arith)
+modest-corrects false x y p q = restates-cases Modest y x (λ l. omega arith) (λ l. omega arith)
 
 module _ {h : History} (v : Valid h) (r : Raw) (j : judge h r ≡ 0) (n : ℕ) (b : Balance) (w : Bounded n b) where
   modest-by : Sort h r → Modest (moveBy h r b)
@@ -122,14 +101,9 @@ module _ {h : History} (v : Valid h) (r : Raw) (j : judge h r ≡ 0) (n : ℕ) (
       rw (move-return h r b k)
       (interest-small (b .deposit) (b .rate) (r .day - b .deposited) (w .deposit) (w .rate) (omega (arith, s .day)))
   modest-by (as-expiry k i e f c o) = rw (move-expiry h r b i e f k) tt
-  modest-by (as-correction k i e f true c u) =
-      rw (move-bill-correction h r b i e f k c)
-      (modest-restates (fate h e .standing) (r .amount) (leb (fate h e .standing) (r .amount))
-      (standing-small v e (in-ranges v e (hit v r i e f .member))) (omega (arith, accepts h r j .ranges .amount)))
-  modest-by (as-correction k i e f false c u) =
-      rw (move-payment-correction h r b i e f k c)
-      (modest-restates (r .amount) (fate h e .standing) (leb (r .amount) (fate h e .standing))
-      (omega (arith, accepts h r j .ranges .amount)) (standing-small v e (in-ranges v e (hit v r i e f .member))))
+  modest-by (as-correction k i e f bill c u) =
+      rw (move-correction h r b i e f bill k c)
+      (modest-corrects bill (fate h e .standing) (r .amount) (standing-small v e (in-ranges v e (hit v r i e f .member))) (omega (arith, accepts h r j .ranges .amount)))
 
   pub modest : Modest (moveBy h r b)
   modest = modest-by (sorted h r j)

@@ -4,19 +4,19 @@ use Prim.Native.Nat.{ℕ, _+_, _-_, _≤_}
 use native.Mathlib.Omega.{arith}
 use mathlib.Core.Bool.{Bool, true, false, cond, true≢false}
 use mathlib.Core.List.{[], _∷_}
-use lib.Dec.{eqb, leb}
-use borrow.Author.Tests.{eqb-true, eq-eqb, leb-true, leb-false}
-use Rattle.entries.specs.Kinds.{kindOf, sameOf}
+use lib.Dec.{eqb}
+use borrow.Author.Tests.{eqb-true, eq-eqb}
+use Rattle.entries.specs.Kinds.{numberOf, kindOf, sameOf}
 use Rattle.entries.specs.declared.raw.Raw.{Raw}
 use Rattle.entries.specs.declared.kinds.Kind.{Kind}
 use Rattle.entries.specs.declared.kinds.Kind.the-variants as kind
 use Rattle.rules.specs.Formulas.{billed, interest}
 use Rattle.rules.specs.Moves.{settles, leaves}
-use Rattle.history.specs.History.{History, naming, names, found, find, Fate, fateOf, posted, refundOf, change, fate, Balance, Move, stays, charges, credits, refunds, deposits, returns, retains, restates, moved, moveBy, balance, Amounts, answered, amounts, judge, total, amountOf, standingAmount, heldOf, addedUp, toArrears, refundsPaid}
+use Rattle.history.specs.History.{History, naming, names, found, find, Fate, fateOf, posted, refundOf, change, fate, Balance, Move, stays, charges, credits, refunds, deposits, returns, retains, moved, moveBy, balance, Amounts, answered, amounts, judge, total, amountOf, standingAmount, heldOf, addedUp, toArrears, refundsPaid}
 use Rattle.history.specs.Laws.{Valid, empty, joins, In, newest, older, Conserved, Divided}
-use Rattle.history.proofs.Accept.{accepts, Sort, as-contribution, as-added, as-bill, as-payment, as-deposit, as-return, as-expiry, as-correction, sorted, Role, alone, upon, role}
-use Rattle.history.proofs.Names.{pointed, hit, unnamed, no-customers, Misses, none, miss, Hits, first, later, plain, misses-kind, hits, names-found, names-points, fate-miss, fate-hit, customers-miss, customers-hit, customers-other}
-use Rattle.history.proofs.Moves.{move-contribution, move-bill, move-payment, move-deposit, move-return, move-added, move-expiry, move-bill-correction, move-payment-correction}
+use Rattle.history.proofs.Accept.{accepts, Sort, as-contribution, as-added, as-bill, as-payment, as-deposit, as-return, as-expiry, as-correction, correctable, sorted, Role, alone, upon, role}
+use Rattle.history.proofs.Names.{pointed, hit, unnamed, no-customers, Misses, none, miss, Hits, first, later, plain, misses-kind, hits, names-found, names-points, fate-cases, fate-miss, fate-hit, customers-miss, customers-hit, customers-other}
+use Rattle.history.proofs.Moves.{move-contribution, move-bill, move-payment, move-deposit, move-return, move-added, move-expiry, move-correction, corrects, restates-cases}
 
 -- a sum as the history grows, whatever is read off the entries
 module _ (f : Kind → Raw → Fate → ℕ) (c : Raw) (h : History) (a : ℕ) where
@@ -109,17 +109,11 @@ module _ (s s′ : Sums) (u : Amounts) (b : Balance) (l : Law s u b) (r : Raw) w
         After (retains (g .held))
     n-expiry m = omega arith
 
-    n-bill-correction : (o : Bool) → leb (g .standing) (r .amount) ≡ o →
-        Shifted s s′ (each (λ f. f kind.Correction r f′)) (each (λ f. f kind.Bill e g)) (each (λ f. f kind.Bill e (change kind.Correction r e g))) →
-        After (cond o (charges (r .amount - g .standing)) (credits (g .standing - r .amount)))
-    n-bill-correction true t m = omega (arith, leb-true (g .standing) (r .amount) t)
-    n-bill-correction false t m = omega (arith, leb-false (g .standing) (r .amount) t)
-
-    n-payment-correction : (o : Bool) → leb (r .amount) (g .standing) ≡ o →
-        Shifted s s′ (each (λ f. f kind.Correction r f′)) (each (λ f. f kind.Payment e g)) (each (λ f. f kind.Payment e (change kind.Correction r e g))) →
-        After (cond o (charges (g .standing - r .amount)) (credits (r .amount - g .standing)))
-    n-payment-correction true t m = omega (arith, leb-true (r .amount) (g .standing) t)
-    n-payment-correction false t m = omega (arith, leb-false (r .amount) (g .standing) t)
+    n-correction : (bill : Bool) →
+        Shifted s s′ (each (λ f. f kind.Correction r f′)) (each (λ f. f (correctable bill) e g)) (each (λ f. f (correctable bill) e (change kind.Correction r e g))) →
+        After (corrects bill (g .standing) (r .amount))
+    n-correction true m = restates-cases After (g .standing) (r .amount) (λ q. omega arith) (λ q. omega arith)
+    n-correction false m = restates-cases After (r .amount) (g .standing) (λ q. omega arith) (λ q. omega arith)
 
 module _ {h : History} (v : Valid h) (r : Raw) (j : judge h r ≡ 0) (a : ℕ) where
   -- the sums over the older entries after one that names nothing, and after one that does
@@ -216,14 +210,9 @@ module _ {h : History} (v : Valid h) (r : Raw) (j : judge h r ≡ 0) where
   own l (as-expiry k i e f c o) =
       from-move (retains (fate h e .held)) (move-expiry h r b i e f k)
       (n-expiry (sums h) (sums (r ∷ h)) (ups h) b l r e (fate (r ∷ h) r) (fate h e) (rw (k, c) at (here-named (ap naming k) i e f)))
-  own l (as-correction k i e f true c u) =
-      from-move (restates (fate h e .standing) (r .amount)) (move-bill-correction h r b i e f k c)
-      (n-bill-correction (sums h) (sums (r ∷ h)) (ups h) b l r e (fate (r ∷ h) r) (fate h e) (leb (fate h e .standing) (r .amount)) refl
-      (rw (k, c) at (here-named (ap naming k) i e f)))
-  own l (as-correction k i e f false c u) =
-      from-move (restates (r .amount) (fate h e .standing)) (move-payment-correction h r b i e f k c)
-      (n-payment-correction (sums h) (sums (r ∷ h)) (ups h) b l r e (fate (r ∷ h) r) (fate h e) (leb (r .amount) (fate h e .standing)) refl
-      (rw (k, c) at (here-named (ap naming k) i e f)))
+  own l (as-correction k i e f bill c u) =
+      from-move (corrects bill (fate h e .standing) (r .amount)) (move-correction h r b i e f bill k c)
+      (n-correction (sums h) (sums (r ∷ h)) (ups h) b l r e (fate (r ∷ h) r) (fate h e) bill (rw (k, c) at (here-named (ap naming k) i e f)))
 
 pub conserve : {h : History} → Valid h → (a : ℕ) → Conserved h a
 unfolding total addedUp balance
@@ -240,27 +229,16 @@ conserve (joins {r} {h} v j) a = go (λ n. conserve v n) (eqb (r .account) a) re
 
 -- EACH CONTRIBUTION
 -- what is not closed has nothing retained
-open-change : (k : Kind) (c e : Raw) (f : Fate) → (f .closed ≡ false → f .retained ≡ 0) → change k c e f .closed ≡ false → change k c e f .retained ≡ 0
-open-change kind.Unknown c e f ih t = ih t
-open-change kind.Contribution c e f ih t = ih t
-open-change kind.AddedCustomer c e f ih t = ih t
-open-change kind.Bill c e f ih t = ih t
-open-change kind.Payment c e f ih t = ih t
-open-change kind.Deposit c e f ih t = ih t
-open-change kind.DepositReturn c e f ih t = ih t
-open-change kind.Expiry c e f ih t = absurd (true≢false t)
-open-change kind.Correction c e f ih t = ih t
-
 still-open : (h : History) (e : Raw) → fate h e .closed ≡ false → fate h e .retained ≡ 0
 unfolding fate
-still-open [] e t = refl
-still-open (c ∷ h) e t = go (λ q. still-open h e q) (names c e) t
-  where
-    go : (fate h e .closed ≡ false → fate h e .retained ≡ 0) → (u : Bool) →
-        cond u (change (kindOf (c .kind)) c e (fate h e)) (fate h e) .closed ≡ false →
-        cond u (change (kindOf (c .kind)) c e (fate h e)) (fate h e) .retained ≡ 0
-    go ih true q = open-change (kindOf (c .kind)) c e (fate h e) ih q
-    go ih false q = ih q
+still-open [] e = λ t. refl
+still-open (c ∷ h) e =
+    let ih = still-open h e in
+    fate-cases (λ f. f .closed ≡ false → f .retained ≡ 0) (names c e) (kindOf (c .kind)) c e (fate h e) ih ih (λ t. absurd (true≢false t)) ih
+
+uncorrectable : (bill : Bool) → kind.Contribution ≡ correctable bill → ⊥
+uncorrectable true q = omega (arith, ap numberOf q)
+uncorrectable false q = omega (arith, ap numberOf q)
 
 module _ {h : History} (v : Valid h) (r : Raw) (j : judge h r ≡ 0) where
   -- the contribution that joins
@@ -317,16 +295,9 @@ module _ {h : History} (v : Valid h) (r : Raw) (j : judge h r ≡ 0) where
   divided-hit e m c n l (as-expiry k i x f q o) =
       let same : e ≡ x = names-found v r i x (ap naming k) f e m n in
       divided-expired e k n (subst (λ y. fate h y .closed ≡ false) (sym same) o) l
-  divided-hit e m c n l (as-correction k i x f true q u) =
+  divided-hit e m c n l (as-correction k i x f bill q u) =
       let same : e ≡ x = names-found v r i x (ap naming k) f e m n in
-      let other : kindOf (e .kind) ≡ kind.Bill = subst (λ (y : Raw). kindOf (y .kind) ≡ kind.Bill) (sym same) q in
-      let z : _≡_ {A = ℕ} 0 1 = cc in
-      absurd (omega arith)
-  divided-hit e m c n l (as-correction k i x f false q u) =
-      let same : e ≡ x = names-found v r i x (ap naming k) f e m n in
-      let other : kindOf (e .kind) ≡ kind.Payment = subst (λ (y : Raw). kindOf (y .kind) ≡ kind.Payment) (sym same) q in
-      let z : _≡_ {A = ℕ} 0 1 = cc in
-      absurd (omega arith)
+      absurd (uncorrectable bill (sym c ∙ subst (λ (y : Raw). kindOf (y .kind) ≡ correctable bill) (sym same) q))
 
 pub divide : {h : History} → Valid h → (e : Raw) → In e h → kindOf (e .kind) ≡ kind.Contribution → Divided h e
 divide (joins {r} {h} v j) e (newest q) c =

@@ -3,9 +3,7 @@ use mathlib.Core.Path.{_≡_, refl, ap}
 use Prim.Native.Nat.{ℕ, _+_, _-_, min, _≤_, _<_}
 use native.Mathlib.Omega.{arith}
 use native.Mathlib.Nat.{min-eq-left}
-use mathlib.Core.Bool.{Bool, true, false, cond}
-use lib.Dec.{leb}
-use borrow.Author.Tests.{leb-true, leb-false}
+use mathlib.Core.Bool.{Bool, true, false}
 use Rattle.measures.specs.Cents.{cents, most}
 use Rattle.measures.specs.Days.{day}
 use Rattle.entries.specs.Ranges.{amountMost}
@@ -26,8 +24,10 @@ use Rattle.rules.specs.declared.changes.Found.the-variants.{At, Nothing}
 use Rattle.rules.specs.declared.changes.Change.{Change}
 use Rattle.rules.specs.declared.changes.Outcome.the-variants.{Accepted}
 use Rattle.rules.proofs.Plain.{plain}
-use Rattle.history.specs.History.{Fate, posted, refundOf, change, Balance, Move, stays, charges, credits, refunds, deposits, returns, retains, moved, Amounts, answered}
+use Rattle.history.specs.History.{Fate, posted, refundOf, change, Balance, Move, stays, charges, credits, refunds, deposits, returns, retains, restates, moved, Amounts, answered}
 use Rattle.history.specs.Agreement.{keptAccount, keptData}
+use Rattle.history.proofs.Accept.{correctable}
+use Rattle.history.proofs.Moves.{restates-cases, corrects}
 
 abbrev pub keptAmounts : Amounts → four′.Amounts
 keptAmounts x = amountsOf (cents (x .settled)) (cents (x .paidOut)) (cents (x .retained)) (cents (x .interest))
@@ -80,6 +80,17 @@ module _ (b : Balance) (newest : ℕ) where
   settled-some : (up down : ℕ) → up ≡ 0 → b .arrears ≤ most → both up down .settled ≡ cents (settles down (b .arrears))
   unfolding creditedOf chargedOf
   settled-some up down z l = ap cents (let owed : min (b .arrears + owes up (b .credit)) most ≡ b .arrears = omega arith in rw owed refl)
+
+  restated : (x y : ℕ) (d : Data) (names : Found) (named : Data) → b .arrears + y ≤ most → b .credit + x ≤ most →
+      let moves = both (y - x) (x - y) in
+      changeOf (keptOf (moves .account) (moves .left)) d names named (amountsOf (moves .settled) (cents 0) (cents 0) (cents 0)) ≡
+      changeBy (restates x y) b newest d names named
+  restated x y d names named l m =
+      let moves = both (y - x) (x - y) in
+      restates-cases
+      (λ how. changeOf (keptOf (moves .account) (moves .left)) d names named (amountsOf (moves .settled) (cents 0) (cents 0) (cents 0)) ≡ changeBy how b newest d names named)
+      x y (λ q. rw (both-charge (y - x) (x - y) (omega arith) (omega arith) (omega arith), settled-none (y - x) (x - y) (omega arith)) refl)
+      (λ q. rw (both-credit (y - x) (x - y) (omega arith) (omega arith) (omega arith), settled-some (y - x) (x - y) (omega arith) (omega arith)) refl)
 
 -- EFFECTS, KIND BY KIND
 module _ (r : Raw) (b : Balance) (newest : ℕ) (f : Found) (d : Data) where
@@ -140,40 +151,11 @@ module _ (r : Raw) (b : Balance) (newest : ℕ) (f : Found) (d : Data) where
     unfolding effectOf expiryOf expiredOf namedOf
     expiry-effect g′ = refl
 
-    pub bill-corrected : (g′ : Fate) (o : Bool) → leb (g .standing) (r .amount) ≡ o → b .arrears + r .amount ≤ most → b .credit + g .standing ≤ most →
-        effectOf r kind.Correction (keptAccount b newest) (At i) (keptData kind.Bill e g s p) ≡
+    pub correction-effect : (g′ : Fate) (bill : Bool) → b .arrears + g .standing + r .amount ≤ most → b .credit + g .standing + r .amount ≤ most →
+        effectOf r kind.Correction (keptAccount b newest) (At i) (keptData (correctable bill) e g s p) ≡
         Accepted
-        (changeBy (cond o (charges (r .amount - g .standing)) (credits (g .standing - r .amount))) b newest (keptData kind.Correction r g′ 0 0) (At i)
-        (keptData kind.Bill e (change kind.Correction r e g) s p))
+        (changeBy (corrects bill (g .standing) (r .amount)) b newest (keptData kind.Correction r g′ 0 0) (At i)
+        (keptData (correctable bill) e (change kind.Correction r e g) s p))
     unfolding effectOf correctionOf restatedOf namedOf
-    bill-corrected g′ true t l m =
-        let z : g .standing - r .amount ≡ 0 = omega (arith, leb-true (g .standing) (r .amount) t) in
-        rw (
-          both-charge b newest (r .amount - g .standing) (g .standing - r .amount) z (omega arith) (omega arith),
-          settled-none b newest (r .amount - g .standing) (g .standing - r .amount) z,
-        ) refl
-    bill-corrected g′ false t l m =
-        let z : r .amount - g .standing ≡ 0 = omega (arith, leb-false (g .standing) (r .amount) t) in
-        rw (
-          both-credit b newest (r .amount - g .standing) (g .standing - r .amount) z (omega arith) (omega arith),
-          settled-some b newest (r .amount - g .standing) (g .standing - r .amount) z (omega arith),
-        ) refl
-
-    pub payment-corrected : (g′ : Fate) (o : Bool) → leb (r .amount) (g .standing) ≡ o → b .arrears + g .standing ≤ most → b .credit + r .amount ≤ most →
-        effectOf r kind.Correction (keptAccount b newest) (At i) (keptData kind.Payment e g s p) ≡
-        Accepted
-        (changeBy (cond o (charges (g .standing - r .amount)) (credits (r .amount - g .standing))) b newest (keptData kind.Correction r g′ 0 0) (At i)
-        (keptData kind.Payment e (change kind.Correction r e g) s p))
-    unfolding effectOf correctionOf restatedOf namedOf
-    payment-corrected g′ true t l m =
-        let z : r .amount - g .standing ≡ 0 = omega (arith, leb-true (r .amount) (g .standing) t) in
-        rw (
-          both-charge b newest (g .standing - r .amount) (r .amount - g .standing) z (omega arith) (omega arith),
-          settled-none b newest (g .standing - r .amount) (r .amount - g .standing) z,
-        ) refl
-    payment-corrected g′ false t l m =
-        let z : g .standing - r .amount ≡ 0 = omega (arith, leb-false (r .amount) (g .standing) t) in
-        rw (
-          both-credit b newest (g .standing - r .amount) (r .amount - g .standing) z (omega arith) (omega arith),
-          settled-some b newest (g .standing - r .amount) (r .amount - g .standing) z (omega arith),
-        ) refl
+    correction-effect g′ true l m = ap Accepted (restated b newest (g .standing) (r .amount) _ _ _ (omega arith) (omega arith))
+    correction-effect g′ false l m = ap Accepted (restated b newest (r .amount) (g .standing) _ _ _ (omega arith) (omega arith))

@@ -109,6 +109,19 @@ named-old {h} v c r w n = go (naming (kindOf (c .kind))) refl (points c r) refl
 pub not-itself : {h : History} → Valid h → (r : Raw) → judge h r ≡ 0 → names r r ≡ false
 not-itself {h} v r j = named-old v r r (role h r (sorted h r j)) (accepts h r j .serial-above)
 
+-- what an older fate has, and each of the three changes, a fate has
+pub fate-cases : (P : Fate → Type 0) (t : Bool) (k : Kind) (c e : Raw) (f : Fate) → P f → P (change kind.AddedCustomer c e f) → P (change kind.Expiry c e f) → P (change kind.Correction c e f) → P (cond t (change k c e f) f)
+fate-cases P true kind.Unknown c e f same added expired corrected = same
+fate-cases P true kind.Contribution c e f same added expired corrected = same
+fate-cases P true kind.AddedCustomer c e f same added expired corrected = added
+fate-cases P true kind.Bill c e f same added expired corrected = same
+fate-cases P true kind.Payment c e f same added expired corrected = same
+fate-cases P true kind.Deposit c e f same added expired corrected = same
+fate-cases P true kind.DepositReturn c e f same added expired corrected = same
+fate-cases P true kind.Expiry c e f same added expired corrected = expired
+fate-cases P true kind.Correction c e f same added expired corrected = corrected
+fate-cases P false k c e f same added expired corrected = same
+
 -- as the history grows
 pub fate-miss : (c : Raw) (h : History) (x : Raw) → names c x ≡ false → fate (c ∷ h) x ≡ fate h x
 unfolding fate
@@ -262,28 +275,14 @@ in-period (joins v j) c e (older t) (older s) k p = in-period v c e t s k p
 
 -- LAW: no two corrections on one account name the same entry
 -- an entry that a correction of the history names is corrected
-corrected-stays : (k : Kind) (c e : Raw) (f : Fate) → f .corrected ≡ true → change k c e f .corrected ≡ true
-corrected-stays kind.Unknown c e f t = t
-corrected-stays kind.Contribution c e f t = t
-corrected-stays kind.AddedCustomer c e f t = t
-corrected-stays kind.Bill c e f t = t
-corrected-stays kind.Payment c e f t = t
-corrected-stays kind.Deposit c e f t = t
-corrected-stays kind.DepositReturn c e f t = t
-corrected-stays kind.Expiry c e f t = t
-corrected-stays kind.Correction c e f t = refl
-
 corrected-by : (h : History) (d e : Raw) → In d h → kindOf (d .kind) ≡ kind.Correction → points d e ≡ true → fate h e .corrected ≡ true
 unfolding fate
 corrected-by (r ∷ h) d e (newest q) k p =
     let hitting : names r e ≡ true = subst (λ y. names y e ≡ true) (sym q) (names-points d e (ap naming k) p) in
     let corrects : kindOf (r .kind) ≡ kind.Correction = subst (λ (y : Raw). kindOf (y .kind) ≡ kind.Correction) (sym q) k in
     rw (hitting, corrects)
-corrected-by (r ∷ h) d e (older t) k p = go (corrected-by h d e t k p) (names r e)
-  where
-    go : fate h e .corrected ≡ true → (t : Bool) → cond t (change (kindOf (r .kind)) r e (fate h e)) (fate h e) .corrected ≡ true
-    go ih true = corrected-stays (kindOf (r .kind)) r e (fate h e) ih
-    go ih false = ih
+corrected-by (r ∷ h) d e (older t) k p =
+    let ih = corrected-by h d e t k p in fate-cases (λ f. f .corrected ≡ true) (names r e) (kindOf (r .kind)) r e (fate h e) ih ih ih refl
 
 pub once : {h : History} → Valid h → Once h
 once empty = tt

@@ -33,27 +33,18 @@ use Rattle.history.specs.History.{History, accounts, points, names, Soug
 use Rattle.history.specs.Laws.{Valid, empty, joins}
 use Rattle.history.specs.Agreement.{keptData, dataIn, keptEntry, keptChain, Kept}
 use Rattle.history.specs.Queries.{entriesOf, statementBy, statementIn, contributionBy, contributionIn}
-use Rattle.history.proofs.Accept.{and-left, and-right, accepts, fits, InRange}
+use Rattle.history.proofs.Accept.{and-left, and-right, accepts, fits, InRange, correctable}
+use Rattle.history.proofs.Names.{fate-cases}
 use Rattle.history.proofs.Bound.{large, standing-small}
 use Rattle.history.proofs.Agree.{agreement}
 
 -- what is held only falls
-held-change : (t : Bool) (k : Kind) (c e : Raw) (f : Fate) (own : ℕ) → f .held ≤ own → cond t (change k c e f) f .held ≤ own
-held-change true kind.Unknown c e f own l = l
-held-change true kind.Contribution c e f own l = l
-held-change true kind.AddedCustomer c e f own l = omega arith
-held-change true kind.Bill c e f own l = l
-held-change true kind.Payment c e f own l = l
-held-change true kind.Deposit c e f own l = l
-held-change true kind.DepositReturn c e f own l = l
-held-change true kind.Expiry c e f own l = omega arith
-held-change true kind.Correction c e f own l = l
-held-change false k c e f own l = l
-
 held-small : (h : History) (e : Raw) → fate h e .held ≤ e .amount
 unfolding fate
 held-small [] e = omega arith
-held-small (c ∷ h) e = held-change (names c e) (kindOf (c .kind)) c e (fate h e) (e .amount) (held-small h e)
+held-small (c ∷ h) e =
+    let ih = held-small h e in
+    fate-cases (λ f. f .held ≤ e .amount) (names c e) (kindOf (c .kind)) c e (fate h e) ih (omega arith) (omega arith) ih
 
 some-small : (t : Bool) (x : ℕ) → x ≤ large → cond t x 0 ≤ large
 some-small true x l = l
@@ -116,82 +107,52 @@ chain-length all (r ∷ h) a = go (chain-length all h a) (eqb (r .account) a)
     go ih true = ap suc ih
     go ih false = ih
 
--- what is read of an entry
-read-held : (k : Kind) (e : Raw) (f : Fate) (s p : ℕ) → namedOf (keptData k e f s p) .held .0 ≡ heldOf k e f
+-- what is read of an entry: what is held, and the standing amount of a bill and of a payment
+reads : (k : Kind) (e : Raw) (f : Fate) (s p : ℕ) →
+    let n = namedOf (keptData k e f s p) in
+    (n .held .0 ≡ heldOf k e f) ×
+    (cond (sameOf (n .kind) kind.Bill) (n .standing .0) 0 ≡ standingAmount kind.Bill k e f) ×
+    (cond (sameOf (n .kind) kind.Payment) (n .standing .0) 0 ≡ standingAmount kind.Payment k e f)
 unfolding namedOf
-read-held kind.Unknown e f s p = refl
-read-held kind.Contribution e f s p = refl
-read-held kind.AddedCustomer e f s p = refl
-read-held kind.Bill e f s p = refl
-read-held kind.Payment e f s p = refl
-read-held kind.Deposit e f s p = refl
-read-held kind.DepositReturn e f s p = refl
-read-held kind.Expiry e f s p = refl
-read-held kind.Correction e f s p = refl
-
-read-bill : (k : Kind) (e : Raw) (f : Fate) (s p : ℕ) →
-    cond (sameOf (namedOf (keptData k e f s p) .kind) kind.Bill) (namedOf (keptData k e f s p) .standing .0) 0 ≡ standingAmount kind.Bill k e f
-unfolding namedOf
-read-bill kind.Unknown e f s p = refl
-read-bill kind.Contribution e f s p = refl
-read-bill kind.AddedCustomer e f s p = refl
-read-bill kind.Bill e f s p = refl
-read-bill kind.Payment e f s p = refl
-read-bill kind.Deposit e f s p = refl
-read-bill kind.DepositReturn e f s p = refl
-read-bill kind.Expiry e f s p = refl
-read-bill kind.Correction e f s p = refl
-
-read-payment : (k : Kind) (e : Raw) (f : Fate) (s p : ℕ) →
-    cond (sameOf (namedOf (keptData k e f s p) .kind) kind.Payment) (namedOf (keptData k e f s p) .standing .0) 0 ≡ standingAmount kind.Payment k e f
-unfolding namedOf
-read-payment kind.Unknown e f s p = refl
-read-payment kind.Contribution e f s p = refl
-read-payment kind.AddedCustomer e f s p = refl
-read-payment kind.Bill e f s p = refl
-read-payment kind.Payment e f s p = refl
-read-payment kind.Deposit e f s p = refl
-read-payment kind.DepositReturn e f s p = refl
-read-payment kind.Expiry e f s p = refl
-read-payment kind.Correction e f s p = refl
+reads kind.Unknown e f s p = (refl, refl, refl)
+reads kind.Contribution e f s p = (refl, refl, refl)
+reads kind.AddedCustomer e f s p = (refl, refl, refl)
+reads kind.Bill e f s p = (refl, refl, refl)
+reads kind.Payment e f s p = (refl, refl, refl)
+reads kind.Deposit e f s p = (refl, refl, refl)
+reads kind.DepositReturn e f s p = (refl, refl, refl)
+reads kind.Expiry e f s p = (refl, refl, refl)
+reads kind.Correction e f s p = (refl, refl, refl)
 
 module _ (all : History) where
   pub held-read : (h : History) (e : Raw) → chains.heldOf (keptEntry all h e) ≡ heldOf (kindOf (e .kind)) e (fate all e)
   unfolding chains.heldOf entryOf
-  held-read h e = read-held (kindOf (e .kind)) e (fate all e) _ _
+  held-read h e = reads (kindOf (e .kind)) e (fate all e) _ _ .0
 
-  bill-read : (h : History) (e : Raw) → standingOf kind.Bill (keptEntry all h e) ≡ standingAmount kind.Bill (kindOf (e .kind)) e (fate all e)
+  standing-read : (bill : Bool) (h : History) (e : Raw) →
+      standingOf (correctable bill) (keptEntry all h e) ≡ standingAmount (correctable bill) (kindOf (e .kind)) e (fate all e)
   unfolding standingOf entryOf
-  bill-read h e = read-bill (kindOf (e .kind)) e (fate all e) _ _
-
-  payment-read : (h : History) (e : Raw) → standingOf kind.Payment (keptEntry all h e) ≡ standingAmount kind.Payment (kindOf (e .kind)) e (fate all e)
-  unfolding standingOf entryOf
-  payment-read h e = read-payment (kindOf (e .kind)) e (fate all e) _ _
-
-fitting : (n : ℕ) → n ≤ most → min n most ≡ n
-fitting n l = min-eq-left l
+  standing-read true h e = reads (kindOf (e .kind)) e (fate all e) _ _ .1
+  standing-read false h e = reads (kindOf (e .kind)) e (fate all e) _ _ .2
 
 -- STATEMENT
 module _ {b : Book} {h : History} (w : Kept b h) where
   held-fits : (a : ℕ) → min (totalOf chains.heldOf (keptChain h h a)) most ≡ total heldOf h h a
   held-fits a =
       rw (chain-total chains.heldOf heldOf h a (held-read h) h)
-      (fitting _ (omega (arith, fits (w .valid), total-small heldOf h a (λ e s. some-small (sameOf (kindOf (e .kind)) kind.Contribution) (fate h e .held) (omega (arith, held-small h e, s .amount))) (w .valid))))
+      (min-eq-left (omega (arith, fits (w .valid), total-small heldOf h a (λ e s. some-small (sameOf (kindOf (e .kind)) kind.Contribution) (fate h e .held) (omega (arith, held-small h e, s .amount))) (w .valid))))
 
-  bills-fit : (a n : ℕ) → min (totalOf (standingOf kind.Bill) (take n (keptChain h h a))) most ≡ total (standingAmount kind.Bill) h (take n (entriesOf h a)) a
-  bills-fit a n =
-      rw (chain-taken (standingOf kind.Bill) (standingAmount kind.Bill) h a (bill-read h) h n)
-      (fitting _ (omega (arith, fits (w .valid), taken-small (standingAmount kind.Bill) h a (λ e s. some-small (sameOf (kindOf (e .kind)) kind.Bill) (fate h e .standing) (standing-small (w .valid) e s)) (w .valid) n)))
-
-  payments-fit : (a n : ℕ) → min (totalOf (standingOf kind.Payment) (take n (keptChain h h a))) most ≡ total (standingAmount kind.Payment) h (take n (entriesOf h a)) a
-  payments-fit a n =
-      rw (chain-taken (standingOf kind.Payment) (standingAmount kind.Payment) h a (payment-read h) h n)
-      (fitting _ (omega (arith, fits (w .valid), taken-small (standingAmount kind.Payment) h a (λ e s. some-small (sameOf (kindOf (e .kind)) kind.Payment) (fate h e .standing) (standing-small (w .valid) e s)) (w .valid) n)))
+  standing-fits : (bill : Bool) (a n : ℕ) →
+      let l = correctable bill in min (totalOf (standingOf l) (take n (keptChain h h a))) most ≡ total (standingAmount l) h (take n (entriesOf h a)) a
+  standing-fits bill a n =
+      let l = correctable bill in
+      rw (chain-taken (standingOf l) (standingAmount l) h a (standing-read h bill) h n)
+      (min-eq-left (omega (arith, fits (w .valid), taken-small (standingAmount l) h a (λ e s. some-small (sameOf (kindOf (e .kind)) l) (fate h e .standing) (standing-small (w .valid) e s)) (w .valid) n)))
 
   given-same : (a n : ℕ) → 1 ≤ a → a ≤ accounts → givenOf (accountAt b a) (chainAt b a) n ≡ statementBy 0 h a n
   unfolding givenOf
   given-same a n l m =
-      rw (agreement .chain b h w a l m, w .agrees .account a l m, held-fits a, bills-fit a n, payments-fit a n, chain-length h h a) refl
+      rw (agreement .chain b h w a l m, w .agrees .account a l m, held-fits a, standing-fits true a n, standing-fits false a n, chain-length h h a) refl
 
   pub statement-same : (a n : ℕ) → statementOf b a n ≡ statementIn h a n
   unfolding statementOf statementIn statements.decidedOf ruleOf between statementReplyOf

@@ -24,7 +24,7 @@ use Rattle.book.proofs.Chain.{findIn-none, findIn-ends, findIn-hit, findIn-miss
 use Rattle.queries.specs.Chain.{chainOf}
 use Rattle.history.specs.History.{History, accounts, entries, lastSerial, naming, points, Sought, missing, found, find, named, Fate, posted, fate, asking, entryIn, fateIn}
 use Rattle.history.specs.Agreement.{newestOf, keptData, keptEntry, keptChain, Rows, start, more, Agrees}
-use Rattle.history.proofs.Accept.{and-left, and-right}
+use Rattle.history.proofs.Accept.{and-left, and-right, no-kind}
 use Rattle.history.proofs.Tables.{Seen}
 
 abbrev pub placeOf : Sought → Found
@@ -149,10 +149,6 @@ names-same kind.Deposit = refl
 names-same kind.DepositReturn = refl
 names-same kind.Expiry = refl
 names-same kind.Correction = refl
-
-no-kind : kindOf 0 ≡ kind.Unknown
-unfolding kindOf
-no-kind = refl
 
 -- an entry of the book and of the history that the rules read alike
 pub record Alike (e : Entry) (x : Raw) (f : Fate) : Type 0 where

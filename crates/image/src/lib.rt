@@ -10,3 +10,4 @@ pub use rounds::reload;
 pub use rounds::resave;
 pub use saves::Saved;
 pub use saves::save;
+pub use saves::size;

@@ -1,5 +1,6 @@
 // A load.
 use book::Book;
+use book::Posted;
 use book::slot;
 use codec::check;
 use codec::count_in;
@@ -8,7 +9,8 @@ use entries::Check;
 use entries::Refusal;
 use rules::Answer;
 ghost use mathlib.Core.Path.{_≡_};
-ghost use Rattle.image.specs.Loads.{verdictOf, loadedReply, loadOf};
+ghost use Rattle.entries.specs.Refusals.{refusalNumber};
+ghost use Rattle.image.specs.Loads.{verdictOf, loadedReply, failedOf, loadOf};
 
 pub enum LoadAnswer {
     Accepted,
@@ -34,39 +36,45 @@ fn verdict(answer: Answer, next: u16, newest: u16) -> Check
     }
 }
 
+// A refused load gives a fresh book.
+pub fn failed(refusal: Refusal, record: u16) -> Loaded
+    ensures { λ r. ⌜ loadedReply r ≡ failedOf (refusalNumber refusal) «record» ⌝ }
+{
+    Loaded {
+        book: Book::fresh(),
+        answer: LoadAnswer::Refused { refusal, record },
+    }
+}
+
 // The book that an image holds, or a fresh one.
 pub fn load(image: &[u8]) -> Loaded
     ensures { λ r. ⌜ loadedReply r ≡ loadOf (now (image .entry)) ⌝ }
 {
     if let Check::Refused(refusal) = check(image) {
-        return Loaded {
-            book: Book::fresh(),
-            answer: LoadAnswer::Refused { refusal, record: 0 },
-        };
+        return failed(refusal, 0);
     }
     let count = count_in(image);
-    let mut book = Book::fresh();
+    // The answer before the first posting is not read.
+    let mut posted = Posted {
+        book: Book::fresh(),
+        answer: Answer::Refused(Refusal::NextIndex),
+    };
     let mut i: u16 = 0;
     while i < count {
         let number = i + 1;
         let record = record_in(image, number);
         let raw = record.raw;
+        let accounts = posted.book.accounts;
         let a = slot(raw.account);
-        let account = book.accounts[a];
-        let posted = book.post(raw);
+        let account = accounts[a];
+        posted = posted.book.post(raw);
         let answer = posted.answer;
         if let Check::Refused(refusal) = verdict(answer, record.next, account.newest) {
-            return Loaded {
-                book: Book::fresh(),
-                answer: LoadAnswer::Refused {
-                    refusal,
-                    record: number,
-                },
-            };
+            return failed(refusal, number);
         }
-        book = posted.book;
         i = number;
     }
+    let book = posted.book;
     Loaded {
         book,
         answer: LoadAnswer::Accepted,

@@ -1,6 +1,7 @@
 // A save and a load, one after the other.
 use crate::loads::LoadAnswer;
 use crate::loads::Loaded;
+use crate::loads::failed;
 use crate::loads::load;
 use crate::saves::Saved;
 use crate::saves::save;
@@ -16,10 +17,7 @@ pub fn reload(book: Book, buf: &mut [u8]) -> Loaded
 {
     match save(book, buf) {
         Saved::Length(n) => load(&buf[..n]),
-        Saved::Refused(refusal) => Loaded {
-            book: Book::fresh(),
-            answer: LoadAnswer::Refused { refusal, record: 0 },
-        },
+        Saved::Refused(refusal) => failed(refusal, 0),
     }
 }
 

@@ -129,7 +129,7 @@ fn put(buf: &mut [u8], at: usize, bytes: &[u8])
 }
 
 // How many entries an image has.
-fn size(count: u16) -> u16
+pub fn size(count: u16) -> u16
     ensures { λ r. ⌜ (r ≡ min count entriesMost) × (r ≤ entriesMost) ⌝ }
 {
     let most = Book::ENTRIES as u16;

@@ -41,10 +41,15 @@ impl Book {
         Ok(book)
     }
 
-    /// Posts a record by 1 to 16, then compares its next index by 20.
     fn read_record(&mut self, record: &[u8]) -> Result<(), u8> {
         let (raw, next) = parse_record(record);
         let reply = self.post(&raw);
+        self.check_record(reply, next)
+    }
+
+    /// The record posted last: by 1 to 16 as its posting was answered, then
+    /// its next index by 20.
+    pub(crate) fn check_record(&self, reply: Reply, next: u16) -> Result<(), u8> {
         if reply.refusal != 0 {
             return Err(reply.refusal);
         }
@@ -56,7 +61,7 @@ impl Book {
 }
 
 /// Refusals 17, 18 and 19.
-fn check_header(image: &[u8]) -> Result<(), u8> {
+pub(crate) fn check_header(image: &[u8]) -> Result<(), u8> {
     let longest = RECORD * (ENTRIES + 1);
     let length = image.len();
     if length < RECORD || length > longest || !length.is_multiple_of(RECORD) {

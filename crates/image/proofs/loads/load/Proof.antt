@@ -1,5 +1,5 @@
 use borrow.Author.Needs.{needs}
-use mathlib.Core.Path.{_≡_, refl, sym, ap, _∙_}
+use mathlib.Core.Path.{_≡_, sym, ap, _∙_}
 use Prim.Native.Nat.{_+_, _-_, _≤_}
 use native.Mathlib.Omega.{arith}
 use denote.Ref.{now}
@@ -17,24 +17,24 @@ use Rattle.image.proofs.loads.load.Statement.{statement}
 use Rattle.image.proofs.loads.load.Tie as tie
 
 abbrev Inv-loop : tie.InvT-loop
-Inv-loop image count book₀ i₀ book i = (i ≤ count) × (loadOf image ≡ restOf image count book i)
+Inv-loop image count posted₀ i₀ posted i = (i ≤ count) × (loadOf image ≡ restOf image count (posted .book) i)
 
 abbrev μ-loop : tie.MeasureT-loop
-μ-loop image count book₀ i₀ book i = count - i
+μ-loop image count posted₀ i₀ posted i = count - i
 
 passes : (c : tie.After-enum-told Inv-loop μ-loop) → checkOf (now (c .before .before .before .before .args .image)) ≡ check.Passed
 passes c = sym (c .before .before .check .ensures) ∙ c .enum-told .given .1
 
 -- the verdict on a record is its refusal
 stopped : (c : tie.After-verdict Inv-loop μ-loop) →
-    checkNumber (c .verdict .result) ≡ stopOf (c .before .before .before .before .before .before .before .loop .book) (recordIn (now (c .before .before .before .before .before .before .before .before .before .before .before .before .before .before .args .image)) (c .before .before .before .before .before .before .before .loop .i + 1))
+    checkNumber (c .verdict .result) ≡ stopOf (c .before .before .before .before .before .before .before .before .loop .posted .book) (recordIn (now (c .before .before .before .before .before .before .before .before .before .before .before .before .before .before .before .args .image)) (c .before .before .before .before .before .before .before .before .loop .i + 1))
 stopped c =
-    let b = c .before .before .before .before .before .before .before .loop .book in
-    let r = c .before .before .before .before .before .record-in .result in
+    let b = c .before .before .before .before .before .before .before .before .loop .posted .book in
+    let r = c .before .before .before .before .before .before .record-in .result in
     let newest = ap (λ a. getD (b .accounts) a noAccount .newest) (c .before .before .before .slot .ensures) in
     ap checkNumber (c .verdict .ensures ∙ ap (verdictOf (c .before .post .result .answer) (r .next)) newest) ∙
     verdict-stop (c .before .post .result .answer) b r (ap (λ x. x .reply) (c .before .post .ensures)) ∙
-    ap (stopOf b) (c .before .before .before .before .before .record-in .ensures)
+    ap (stopOf b) (c .before .before .before .before .before .before .record-in .ensures)
 
 check-requires : tie.Need-check-requires Inv-loop μ-loop
 check-requires c κs = search needs
@@ -42,12 +42,11 @@ check-requires c κs = search needs
 enum-known-refusal : tie.Need-enum-known-refusal Inv-loop μ-loop
 enum-known-refusal c = search needs
 
-fresh-requires : tie.Need-fresh-requires Inv-loop μ-loop
-fresh-requires c κs = search needs
+failed-requires : tie.Need-failed-requires Inv-loop μ-loop
+failed-requires c κs = search needs
 
 returns : tie.Need-returns Inv-loop μ-loop
-unfolding loadedReply
-returns c = rw (load-refused (now (c .before .before .before .before .before .before .args .image)) (c .before .before .refusal .given .0 .0) (sym (c .before .before .before .before .check .ensures) ∙ c .before .before .refusal .given .1), c .fresh .ensures) refl
+returns c = c .failed .ensures ∙ sym (load-refused (now (c .before .before .before .before .before .before .args .image)) (c .before .before .refusal .given .0 .0) (sym (c .before .before .before .before .check .ensures) ∙ c .before .before .refusal .given .1))
 
 enum-told : tie.Need-enum-told Inv-loop μ-loop
 enum-told c = search needs
@@ -55,11 +54,11 @@ enum-told c = search needs
 count-in-requires : tie.Need-count-in-requires Inv-loop μ-loop
 count-in-requires c κs = search needs
 
-fresh-requires-2 : tie.Need-fresh-requires-2 Inv-loop μ-loop
-fresh-requires-2 c κs = search needs
+fresh-requires : tie.Need-fresh-requires Inv-loop μ-loop
+fresh-requires c κs = search needs
 
 loop-holds : tie.Need-loop-holds Inv-loop μ-loop
-loop-holds c = (omega arith, rw (c .before .count-in .ensures, c .fresh2 .ensures) (load-starts (now (c .before .before .before .before .before .before .args .image)) (passes (c .before .before))))
+loop-holds c = (omega arith, rw (c .before .count-in .ensures, c .fresh .ensures) (load-starts (now (c .before .before .before .before .before .before .args .image)) (passes (c .before .before))))
 
 add-number : tie.Need-add-number Inv-loop μ-loop
 add-number c = search needs
@@ -71,10 +70,10 @@ slot-requires : tie.Need-slot-requires Inv-loop μ-loop
 slot-requires c κs = search needs
 
 mul-account : tie.Need-mul-account Inv-loop μ-loop
-mul-account c = omega (arith, slot-inside (c .before .before .record-in .result .raw .account), c .slot .ensures)
+mul-account c = omega (arith, slot-inside (c .before .before .before .record-in .result .raw .account), c .slot .ensures)
 
-element-copy-out-account : tie.Need-element-copy-out-account Inv-loop μ-loop
-element-copy-out-account c = rw (c .slot .ensures) (slot-inside _)
+array-copy-out-account : tie.Need-array-copy-out-account Inv-loop μ-loop
+array-copy-out-account c = rw (c .slot .ensures) (slot-inside _)
 
 post-requires : tie.Need-post-requires Inv-loop μ-loop
 post-requires c κs = search needs
@@ -85,16 +84,16 @@ verdict-requires c κs = search needs
 enum-known-refusal-2 : tie.Need-enum-known-refusal-2 Inv-loop μ-loop
 enum-known-refusal-2 c = search needs
 
-fresh-requires-3 : tie.Need-fresh-requires-3 Inv-loop μ-loop
-fresh-requires-3 c κs = search needs
+failed-requires-2 : tie.Need-failed-requires-2 Inv-loop μ-loop
+failed-requires-2 c κs = search needs
 
 returns-2 : tie.Need-returns-2 Inv-loop μ-loop
-unfolding loadedReply checkNumber
+unfolding checkNumber
 returns-2 c =
-    let l = c .before .before .before .before .before .before .before .before .before .before .before .loop in
+    let l = c .before .before .before .before .before .before .before .before .before .before .before .before .loop in
     let n = c .before .before .refusal2 .given .0 .0 in
-    let stop : refusalNumber n ≡ stopOf (l .book) (recordIn (now (c .before .before .before .before .before .before .before .before .before .before .before .before .before .before .before .before .before .before .args .image)) (l .i + 1)) = sym (ap checkNumber (c .before .before .refusal2 .given .1)) ∙ stopped (c .before .before .before .before) in
-    rw (l .inv .1, rest-stop (now (c .before .before .before .before .before .before .before .before .before .before .before .before .before .before .before .before .before .before .args .image)) (c .before .before .before .before .before .before .before .before .before .before .before .before .before .count-in .result) (l .book) (l .i) (refusalNumber n) (omega arith) stop (refusal-above n), c .fresh3 .ensures) refl
+    let stop : refusalNumber n ≡ stopOf (l .posted .book) (recordIn (now (c .before .before .before .before .before .before .before .before .before .before .before .before .before .before .before .before .before .before .before .args .image)) (l .i + 1)) = sym (ap checkNumber (c .before .before .refusal2 .given .1)) ∙ stopped (c .before .before .before .before) in
+    c .failed2 .ensures ∙ sym (l .inv .1 ∙ rest-stop (now (c .before .before .before .before .before .before .before .before .before .before .before .before .before .before .before .before .before .before .before .args .image)) (c .before .before .before .before .before .before .before .before .before .before .before .before .before .before .count-in .result) (l .posted .book) (l .i) (refusalNumber n) (omega arith) stop (refusal-above n))
 
 enum-told-2 : tie.Need-enum-told-2 Inv-loop μ-loop
 enum-told-2 c = search needs
@@ -106,16 +105,16 @@ loop-again : tie.Need-loop-again Inv-loop μ-loop
 unfolding checkNumber
 loop-again c =
     let l = c .before .before .before .before .before .before .before .before .before .before .loop in
-    let stop : stopOf (l .book) (recordIn (now (c .before .before .before .before .before .before .before .before .before .before .before .before .before .before .before .before .before .args .image)) (l .i + 1)) ≡ 0 = sym (stopped (c .before .before .before)) ∙ ap checkNumber (c .before .enum-told2 .given .1) in
-    let next : c .before .before .before .before .post .result .book ≡ postOf (l .book) (recordIn (now (c .before .before .before .before .before .before .before .before .before .before .before .before .before .before .before .before .before .args .image)) (l .i + 1) .raw) .book = ap (λ x. x .book) (c .before .before .before .before .post .ensures) ∙ ap (λ x. postOf (l .book) (x .raw) .book) (c .before .before .before .before .before .before .before .before .record-in .ensures) in
-    (omega arith, l .inv .1 ∙ rest-step (now (c .before .before .before .before .before .before .before .before .before .before .before .before .before .before .before .before .before .args .image)) (c .before .before .before .before .before .before .before .before .before .before .before .before .count-in .result) (l .book) (c .before .before .before .before .post .result .book) (l .i) (omega arith) stop next)
+    let stop : stopOf (l .posted .book) (recordIn (now (c .before .before .before .before .before .before .before .before .before .before .before .before .before .before .before .before .before .args .image)) (l .i + 1)) ≡ 0 = sym (stopped (c .before .before)) ∙ ap checkNumber (c .enum-told2 .given .1) in
+    let next : c .before .before .before .post .result .book ≡ postOf (l .posted .book) (recordIn (now (c .before .before .before .before .before .before .before .before .before .before .before .before .before .before .before .before .before .args .image)) (l .i + 1) .raw) .book = ap (λ x. x .book) (c .before .before .before .post .ensures) ∙ ap (λ x. postOf (l .posted .book) (x .raw) .book) (c .before .before .before .before .before .before .before .before .record-in .ensures) in
+    (omega arith, l .inv .1 ∙ rest-step (now (c .before .before .before .before .before .before .before .before .before .before .before .before .before .before .before .before .before .args .image)) (c .before .before .before .before .before .before .before .before .before .before .before .before .count-in .result) (l .posted .book) (c .before .before .before .post .result .book) (l .i) (omega arith) stop next)
 
 returns-3 : tie.Need-returns-3 Inv-loop μ-loop
 unfolding loadedReply
 returns-3 c =
-    let l = c .before .loop in
-    let e : l .i ≡ c .before .before .before .count-in .result = omega arith in
-    sym (l .inv .1 ∙ rw e (rest-end (now (c .before .before .before .before .before .before .before .before .args .image)) (c .before .before .before .count-in .result) (l .book)))
+    let l = c .before .before .loop in
+    let e : l .i ≡ c .before .before .before .before .count-in .result = omega arith in
+    sym (l .inv .1 ∙ rw e (rest-end (now (c .before .before .before .before .before .before .before .before .before .args .image)) (c .before .before .before .before .count-in .result) (l .posted .book)))
 
 pub load-spec : {M : Type 1} → statement M
 load-spec =
@@ -125,21 +124,21 @@ load-spec =
     μ-loop
     check-requires
     enum-known-refusal
-    fresh-requires
+    failed-requires
     returns
     enum-told
     count-in-requires
-    fresh-requires-2
+    fresh-requires
     loop-holds
     add-number
     record-in-requires
     slot-requires
     mul-account
-    element-copy-out-account
+    array-copy-out-account
     post-requires
     verdict-requires
     enum-known-refusal-2
-    fresh-requires-3
+    failed-requires-2
     returns-2
     enum-told-2
     loop-less

@@ -34,8 +34,8 @@ load-requires c κs = search needs
 enum-known-refusal : tie.Need-enum-known-refusal
 enum-known-refusal c = search needs
 
-fresh-requires : tie.Need-fresh-requires
-fresh-requires c κs = search needs
+failed-requires : tie.Need-failed-requires
+failed-requires c κs = search needs
 
 same-length : tie.Need-same-length
 same-length c = search needs
@@ -52,11 +52,10 @@ same-length-2 : tie.Need-same-length-2
 same-length-2 c = search needs
 
 returns-2 : tie.Need-returns-2
-unfolding savedReply loadedReply
+unfolding savedReply
 returns-2 c =
-    let start = c .before .before .before .before .before .before .before .before .before in
     let k = c .before .before .refusal .given .0 .0 in
-    reload-refused (start .args .book) (now (start .args .buf)) _ (refusalNumber k) _ (refusal-above k) (sym (ap savedReply (c .before .before .refusal .given .1)) ∙ c .before .before .before .before .before .before .save .ensures .0) (c .before .before .before .before .before .before .save .ensures .1) (rw (c .fresh .ensures) refl)
+    reload-refused (c .before .before .before .before .before .before .before .before .before .args .book) (now (c .before .before .before .before .before .before .before .before .before .args .buf)) _ (refusalNumber k) _ (refusal-above k) (sym (ap savedReply (c .before .before .refusal .given .1)) ∙ c .before .before .before .before .before .before .save .ensures .0) (c .before .before .before .before .before .before .save .ensures .1) (c .failed .ensures)
 
 pub reload-spec : {M : Type 1} → statement M
 reload-spec =
@@ -68,7 +67,7 @@ reload-spec =
     slice-aggregate-load
     load-requires
     enum-known-refusal
-    fresh-requires
+    failed-requires
     same-length
     returns
     same-length-2

@@ -1,11 +1,13 @@
 use Rattle.entries.specs.Entries.{namedOf}
-use mathlib.Core.Path.{refl}
 use borrow.Author.Needs.{needs}
 use Rattle.entries.proofs.data.Data.named.Statement.{statement}
 use Rattle.entries.proofs.data.Data.named.Tie as tie
 
 enum-known-self : tie.Need-enum-known-self
 enum-known-self c = search needs
+
+contribution-requires : tie.Need-contribution-requires
+contribution-requires c κs = search needs
 
 enum-known-self-2 : tie.Need-enum-known-self-2
 enum-known-self-2 c = search needs
@@ -57,7 +59,7 @@ other-requires-6 c κs = search needs
 
 returns : tie.Need-returns
 unfolding namedOf
-returns c = rw (c .before .self .given .1) refl
+returns c = rw (c .before .before .self .given .1) (c .contribution .ensures)
 
 returns-2 : tie.Need-returns-2
 unfolding namedOf
@@ -96,6 +98,7 @@ named-spec =
     tie.close
     (tie.spec
     enum-known-self
+    contribution-requires
     enum-known-self-2
     correctable-requires
     enum-known-self-3

@@ -1,0 +1,148 @@
+/*
+ * The contribution book for C hosts: libcontribution_book.a, proved in Rattle.
+ *
+ * A book goes in and comes out as an image, the bytes of document 01's section "Image". An image that begins the work
+ * is CONTRIBUTION_BOOK_FRESH; every other one is written by contribution_book_post or contribution_book_carry_over.
+ *
+ * Every call returns, for every input, a struct whose first members are
+ *   refusal  0 where the call is accepted, else the refusal number of document 01
+ *   record   where the image is refused, the number of its record at fault, from 1; 0 where no record is at fault, and 0
+ *            where the image is accepted, whether or not the call then is
+ * A refused call has zeros in every other member, and writes nothing. An accepted one writes its result at the start of
+ * each buffer and no byte past it.
+ *
+ * Each buffer is a pointer and its length in bytes. The pointer is not null, also where the length is 0. The buffers that a
+ * call writes must not overlap one another or those that it reads. No call keeps a pointer, allocates, or uses memory that
+ * another call uses, so that calls on separate buffers may run at once. A call uses up to 1 MiB of stack.
+ *
+ * The archive is for x86-64 Linux.
+ */
+#ifndef CONTRIBUTION_BOOK_H
+#define CONTRIBUTION_BOOK_H
+
+#include <stdbool.h>
+#include <stddef.h>
+#include <stdint.h>
+
+#ifdef __cplusplus
+extern "C" {
+#endif
+
+/* The bytes of an image's header and of each record, and of the longest image: the header and 1,024 records. */
+#define CONTRIBUTION_BOOK_RECORD 24
+#define CONTRIBUTION_BOOK_LONGEST 24600
+
+/* The image of a fresh book, as the initializer of an array of CONTRIBUTION_BOOK_RECORD bytes. */
+#define CONTRIBUTION_BOOK_FRESH {'C', 'H', 'B', '1'}
+
+struct contribution_book_checked {
+    uint8_t refusal;
+    uint16_t record;
+    uint16_t entries; /* how many entries the book has */
+};
+
+/*
+ * Checks an image.
+ * Takes    the image.
+ * Gives    the number of its entries.
+ * Refuses  the image, by 17 to 19, or by 1 to 16 and 20 with the record at fault.
+ * Leaves   nothing: it writes to no buffer.
+ */
+struct contribution_book_checked contribution_book_check(const uint8_t *image, size_t image_length);
+
+struct contribution_book_posted {
+    uint8_t refusal;
+    uint16_t record;
+    uint16_t number;   /* the number of the entry, from 1 */
+    size_t bytes;      /* the length of the image written */
+    uint64_t settled;  /* arrears settled by a credit, in cents, as are the following */
+    uint64_t paid_out;
+    uint64_t retained;
+    uint64_t interest;
+};
+
+/*
+ * Posts one entry.
+ * Takes    the image, and the entry as a record of 24 bytes, whose next index (its bytes 6 and 7) is not read.
+ * Gives    the entry's number, the four amounts of its answer, and the length of the next image.
+ * Refuses  the image; then the entry by 17 where it hasn't 24 bytes, and by 1 to 16; then by 21 an output that is shorter
+ *          than the next image.
+ * Leaves   the next image at the start of the output.
+ */
+struct contribution_book_posted contribution_book_post(const uint8_t *image, size_t image_length, const uint8_t *entry,
+                                                       size_t entry_length, uint8_t *output, size_t output_length);
+
+struct contribution_book_carried {
+    uint8_t refusal;
+    uint16_t record;
+    size_t bytes; /* the length of the image written */
+};
+
+/*
+ * Carries over the other node's entries: posts each in turn.
+ * Takes    the image, and a run of entries, each as a record of 24 bytes whose next index is not read.
+ * Gives    the length of the next image.
+ * Refuses  the image; then the run by 17 where its length is no multiple of 24; then by 22 a result list that is shorter
+ *          than the entries; then by 21 an output that is shorter than the next image. An entry that is refused doesn't
+ *          refuse the call.
+ * Leaves   each entry's refusal number, or 0, at its place in the result list, and the next image at the start of the
+ *          output. An output of CONTRIBUTION_BOOK_LONGEST bytes always has room, and one that has room for the image with
+ *          all the entries is the fastest: else each entry is posted twice, to learn first whether the image fits.
+ */
+struct contribution_book_carried contribution_book_carry_over(const uint8_t *image, size_t image_length,
+                                                              const uint8_t *run, size_t run_length, uint8_t *results,
+                                                              size_t results_length, uint8_t *output,
+                                                              size_t output_length);
+
+struct contribution_book_statement_given {
+    uint8_t refusal;
+    uint16_t record;
+    uint16_t links_read;
+    bool complete;     /* whether every entry of the account was read */
+    uint64_t arrears;  /* in cents, as are the following */
+    uint64_t credit;
+    uint64_t deposit;  /* deposit held */
+    uint64_t held;     /* held, summed over the account's contributions */
+    uint64_t bills;    /* standing bills, summed over the entries read */
+    uint64_t payments; /* standing payments, summed over the entries read */
+};
+
+/*
+ * The statement of an account.
+ * Takes    the image, the account, and how many of the account's entries to read at most, newest first.
+ * Gives    the figures above.
+ * Refuses  the image; then by 3 an account that is not 1 to 128.
+ * Leaves   nothing: it writes to no buffer.
+ */
+struct contribution_book_statement_given contribution_book_statement(const uint8_t *image, size_t image_length,
+                                                                     uint16_t account, uint64_t allowance);
+
+struct contribution_book_contribution_given {
+    uint8_t refusal;
+    uint16_t record;
+    uint16_t added;      /* customers added */
+    bool closed;
+    uint64_t amount;     /* in cents, as are the following */
+    uint64_t to_arrears; /* refunds to arrears */
+    uint64_t paid_out;   /* refunds paid out */
+    uint64_t held;
+    uint64_t retained;
+};
+
+/*
+ * What became of a contribution.
+ * Takes    the image, the account, and the node and serial that the contribution carries.
+ * Gives    the figures above.
+ * Refuses  the image; then by 2 a node that is not 1 or 2, by 3 an account that is not 1 to 128, and by 8 a pair of node
+ *          and serial that no contribution of the account carries.
+ * Leaves   nothing: it writes to no buffer.
+ */
+struct contribution_book_contribution_given contribution_book_contribution(const uint8_t *image, size_t image_length,
+                                                                           uint16_t account, uint8_t node,
+                                                                           uint32_t serial);
+
+#ifdef __cplusplus
+}
+#endif
+
+#endif

@@ -1,0 +1,70 @@
+/*
+ * A host posts a payment to a fresh book, carries over two entries of the other node, and reads a statement.
+ * It writes what the book gives, and exits with 1 where a call is refused.
+ */
+#include <inttypes.h>
+#include <stdio.h>
+#include <string.h>
+
+#include "contribution_book.h"
+
+enum { CONTRIBUTION = 1, PAYMENT = 4 };
+
+/* Writes a number of so many bytes, little-endian. */
+static void put(uint8_t *at, size_t width, uint32_t value) {
+    for (size_t i = 0; i < width; i++) {
+        at[i] = (uint8_t)(value >> (8 * i));
+    }
+}
+
+/* Writes the record of a contribution or a payment of account 5, whose day is 10. The other fields of its kind are a and b. */
+static void put_entry(uint8_t *at, uint8_t kind, uint8_t node, uint32_t serial, uint32_t amount, uint16_t a, uint8_t b) {
+    memset(at, 0, CONTRIBUTION_BOOK_RECORD);
+    at[0] = kind;
+    at[1] = node;
+    put(at + 2, 2, 5);
+    put(at + 4, 2, 10);
+    put(at + 8, 4, serial);
+    put(at + 12, 4, amount);
+    put(at + 20, 2, a);
+    at[22] = b;
+}
+
+static int refused(const char *call, uint8_t refusal, uint16_t record) {
+    fprintf(stderr, "%s refused by %u, record %u\n", call, (unsigned)refusal, (unsigned)record);
+    return 1;
+}
+
+int main(void) {
+    static const uint8_t fresh[CONTRIBUTION_BOOK_RECORD] = CONTRIBUTION_BOOK_FRESH;
+    static uint8_t first[CONTRIBUTION_BOOK_LONGEST], second[CONTRIBUTION_BOOK_LONGEST];
+
+    /* A payment of 2,500 by node 1. */
+    uint8_t payment[CONTRIBUTION_BOOK_RECORD];
+    put_entry(payment, PAYMENT, 1, 1, 2500, 0, 0);
+    struct contribution_book_posted posted =
+        contribution_book_post(fresh, sizeof fresh, payment, sizeof payment, first, sizeof first);
+    if (posted.refusal != 0) {
+        return refused("post", posted.refusal, posted.record);
+    }
+    printf("entry %u, image of %zu bytes\n", (unsigned)posted.number, posted.bytes);
+
+    /* Node 2's contribution of 300,000 for 200 metres and one phase, and one for 0 metres, which is refused by 5. */
+    uint8_t run[2 * CONTRIBUTION_BOOK_RECORD], results[2];
+    put_entry(run, CONTRIBUTION, 2, 1, 300000, 200, 1);
+    put_entry(run + CONTRIBUTION_BOOK_RECORD, CONTRIBUTION, 2, 2, 300000, 0, 1);
+    struct contribution_book_carried carried = contribution_book_carry_over(
+        first, posted.bytes, run, sizeof run, results, sizeof results, second, sizeof second);
+    if (carried.refusal != 0) {
+        return refused("carry_over", carried.refusal, carried.record);
+    }
+    printf("results %u %u, image of %zu bytes\n", (unsigned)results[0], (unsigned)results[1], carried.bytes);
+
+    struct contribution_book_statement_given statement = contribution_book_statement(second, carried.bytes, 5, UINT64_MAX);
+    if (statement.refusal != 0) {
+        return refused("statement", statement.refusal, statement.record);
+    }
+    printf("arrears %" PRIu64 ", credit %" PRIu64 ", held %" PRIu64 ", payments %" PRIu64 "\n", statement.arrears,
+           statement.credit, statement.held, statement.payments);
+    return 0;
+}

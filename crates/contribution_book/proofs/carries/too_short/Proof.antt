@@ -1,0 +1,49 @@
+use borrow.Author.Needs.{needs}
+use Prim.Native.Nat.{_+_, _*_}
+use mathlib.Core.Path.{sym, ap, _∙_}
+use native.Mathlib.Omega.{arith}
+use denote.Ref.{now}
+use lib.Dec.{ltb}
+use borrow.Author.Tests.{le-ltb}
+use Rattle.image.specs.Saves.{bytesOf}
+use Rattle.contribution_book.specs.Carries.{nextOf}
+use Rattle.contribution_book.proofs.Images.{image-most}
+use Rattle.contribution_book.proofs.carries.too_short.Statement.{statement}
+use Rattle.contribution_book.proofs.carries.too_short.Tie as tie
+
+returns : tie.Need-returns
+returns c = sym (le-ltb (c .before .before .args .length) (bytesOf (nextOf (c .before .before .args .book) (now (c .before .before .args .run)))) (omega (arith, image-most (nextOf (c .before .before .args .book) (now (c .before .before .args .run))))))
+
+slice-aggregate-posts : tie.Need-slice-aggregate-posts
+slice-aggregate-posts c = search needs
+
+posts-requires : tie.Need-posts-requires
+posts-requires c κs = search needs
+
+size-requires : tie.Need-size-requires
+size-requires c κs = search needs
+
+cast-result : tie.Need-cast-result
+cast-result c = search needs
+
+add-result : tie.Need-add-result
+add-result c = search needs
+
+mul-result : tie.Need-mul-result
+mul-result c = search needs
+
+returns-2 : tie.Need-returns-2
+returns-2 c = ap (λ n. ltb (c .before .before .before .before .before .before .args .length) (24 * (n + 1))) (c .size .ensures .0) ∙ ap (λ b. ltb (c .before .before .before .before .before .before .args .length) (bytesOf b)) (c .before .before .posts .ensures .0)
+
+pub too-short-spec : {M : Type 1} → statement M
+too-short-spec =
+    tie.close
+    (tie.spec
+    returns
+    slice-aggregate-posts
+    posts-requires
+    size-requires
+    cast-result
+    add-result
+    mul-result
+    returns-2)

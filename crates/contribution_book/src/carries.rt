@@ -1,0 +1,130 @@
+// A carry-over of a run of entries into an image.
+use book::Book;
+use book::Posted;
+use codec::LONGEST;
+use codec::RECORD;
+use codec::record_in;
+use entries::Refusal;
+use image::LoadAnswer;
+use image::Saved;
+use image::load;
+use image::save;
+use image::size;
+use rules::Answer;
+ghost use mathlib.Core.Path.{_≡_};
+ghost use lib.ListN.{set};
+ghost use lib.Dec.{ltb};
+ghost use Rattle.entries.specs.Refusals.{refusalNumber};
+ghost use Rattle.carry.specs.Carry.{postsOf, refusalsOf};
+ghost use Rattle.image.specs.Saves.{bytesOf};
+ghost use Rattle.image.specs.Loads.{loadOf};
+ghost use Rattle.contribution_book.specs.Carries.{runOf, putAll, nextOf, refusedCarry, carryInto, carryImage};
+
+#[repr(C)]
+pub struct CarryGiven {
+    pub refusal: u8,
+    // The image's record at fault, 0 where none is.
+    pub record: u16,
+    // The length of the image written.
+    pub bytes: usize,
+}
+
+// Zeros beside the refusal and the image's record at fault.
+fn refused(refusal: Refusal, record: u16) -> CarryGiven
+    ensures { λ r. ⌜ r ≡ refusedCarry (refusalNumber refusal) «record» ⌝ }
+{
+    CarryGiven {
+        refusal: refusal.number(),
+        record,
+        bytes: 0,
+    }
+}
+
+// Writes a result at its place, where the list has it.
+fn mark(results: &mut [u8], i: usize, result: u8)
+    ensures { λ _. ⌜ now (results .exit) ≡ set (now (results .entry)) i result ⌝ }
+{
+    if i < results.len() {
+        results[i] = result;
+    }
+}
+
+// Posts each entry of a run in turn, and writes its refusal number, or 0, at its place, where the list has it.
+fn posts(book: Book, run: &[u8], results: &mut [u8]) -> Book
+    ensures { λ r. ⌜ (r ≡ nextOf book (now (run .entry))) × (now (results .exit) ≡ putAll (now (results .entry)) 0 (refusalsOf book (runOf (now (run .entry))))) ⌝ }
+{
+    let count = run.len() / RECORD;
+    // The answer before the first posting is not read.
+    let mut posted = Posted {
+        book,
+        answer: Answer::Refused(Refusal::NextIndex),
+    };
+    let mut i: usize = 0;
+    while i < count {
+        let at = RECORD * i;
+        let record = record_in(&run[at..], 0);
+        let raw = record.raw;
+        posted = posted.book.post(raw);
+        let answer = posted.answer;
+        mark(results, i, answer.reply().refusal);
+        i += 1;
+    }
+    posted.book
+}
+
+// Whether an output of a length is too short for the image after the run. One of the longest image's length never is.
+fn too_short(book: Book, run: &[u8], length: usize) -> bool
+    ensures { λ r. ⌜ r ≡ ltb length (bytesOf (nextOf book (now (run .entry)))) ⌝ }
+{
+    if LONGEST <= length {
+        return false;
+    }
+    let mut unused = [0u8; 1];
+    let next = posts(book, run, &mut unused);
+    let size = size(next.count);
+    length < RECORD * (size as usize + 1)
+}
+
+// A carry-over into a book, which is then saved.
+fn carry_into(book: Book, run: &[u8], results: &mut [u8], output: &mut [u8]) -> CarryGiven
+    ensures { λ r. ⌜ (record { given = r; results = now (results .exit); output = now (output .exit) }) ≡ carryInto book (now (run .entry)) (now (results .entry)) (now (output .entry)) ⌝ }
+{
+    if run.len() % RECORD != 0 {
+        return refused(Refusal::ImageLength, 0);
+    }
+    if results.len() < run.len() / RECORD {
+        return refused(Refusal::ResultsShort, 0);
+    }
+    if too_short(book, run, output.len()) {
+        return refused(Refusal::BufferShort, 0);
+    }
+    let next = posts(book, run, results);
+    match save(next, output) {
+        Saved::Length(bytes) => CarryGiven {
+            refusal: 0,
+            record: 0,
+            bytes,
+        },
+        Saved::Refused(refusal) => refused(refusal, 0),
+    }
+}
+
+#[no_mangle]
+pub extern "C" fn contribution_book_carry_over(
+    image: &[u8],
+    run: &[u8],
+    results: &mut [u8],
+    output: &mut [u8],
+) -> CarryGiven
+    ensures { λ r. ⌜ (record { given = r; results = now (results .exit); output = now (output .exit) }) ≡ carryImage (loadOf (now (image .entry))) (now (run .entry)) (now (results .entry)) (now (output .entry)) ⌝ }
+{
+    let loaded = load(image);
+    let answer = loaded.answer;
+    match answer {
+        LoadAnswer::Accepted => {
+            let book = loaded.book;
+            carry_into(book, run, results, output)
+        }
+        LoadAnswer::Refused { refusal, record } => refused(refusal, record),
+    }
+}

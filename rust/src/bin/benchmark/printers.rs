@@ -1,0 +1,38 @@
+//! The statement printers as processes.
+
+use std::env;
+use std::io::Write;
+use std::path::{Path, PathBuf};
+use std::process::{Command, Stdio};
+
+/// The programs of the proved book, of the plain one and of the plain one
+/// passed by value.
+pub fn programs() -> [PathBuf; 3] {
+    let benchmark = env::current_exe().expect("this program has a path");
+    let root = Path::new(env!("CARGO_MANIFEST_DIR")).join("..");
+    [
+        root.join("target/bin/statements"),
+        benchmark.with_file_name("statements_plain"),
+        benchmark.with_file_name("statements_by_value"),
+    ]
+}
+
+/// What a printer writes of an image.
+pub fn print(program: &Path, image: &[u8]) -> Vec<u8> {
+    let mut child = Command::new(program)
+        .stdin(Stdio::piped())
+        .stdout(Stdio::piped())
+        .spawn()
+        .unwrap_or_else(|error| {
+            panic!(
+                "{}: {error}; scripts/benchmark builds it",
+                program.display()
+            )
+        });
+    let mut stdin = child.stdin.take().expect("standard input is a pipe");
+    stdin.write_all(image).expect("the printer reads the image");
+    drop(stdin);
+    let output = child.wait_with_output().expect("the printer ends");
+    assert!(output.status.success(), "{}", program.display());
+    output.stdout
+}

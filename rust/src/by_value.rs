@@ -1,0 +1,111 @@
+//! The plain book passed by value: each call takes the book and gives the
+//! next one beside its answer.
+//!
+//! No call is inlined, so that the book really is passed.
+
+use crate::plain::{self, ContributionReply, Raw, Reply, StatementReply, RECORD};
+
+/// Bytes of the proved book.
+pub const PROVED_BYTES: usize = 87_056;
+
+/// Unused bytes beside the plain book, so that this book's size is the proved
+/// book's modulo 4,096. The plain book's own size is 16 modulo 4,096, and a copy
+/// between addresses that differ by so little, as those of neighbours on the
+/// stack do, takes several times as long.
+const UNUSED: usize = (PROVED_BYTES - size_of::<plain::Book>()) % 4_096;
+
+/// The contribution book, passed by value.
+#[derive(Clone, Debug, PartialEq, Eq)]
+pub struct Book {
+    plain: plain::Book,
+    unused: [u8; UNUSED],
+}
+
+impl Default for Book {
+    fn default() -> Book {
+        Book::fresh()
+    }
+}
+
+impl Book {
+    /// The book with no entries.
+    pub fn fresh() -> Book {
+        Book {
+            plain: plain::Book::fresh(),
+            unused: [0; UNUSED],
+        }
+    }
+
+    /// The number of entries in the book.
+    pub fn count(&self) -> usize {
+        self.plain.count()
+    }
+
+    /// Posts one entry.
+    #[inline(never)]
+    pub fn post(mut self, raw: &Raw) -> (Book, Reply) {
+        let reply = self.plain.post(raw);
+        (self, reply)
+    }
+
+    /// Posts each entry in turn and writes its refusal number, or 0, to the
+    /// same place in `results`. Refused by 22 where `results` is shorter.
+    #[inline(never)]
+    pub fn carry_over(self, entries: &[Raw], results: &mut [u8]) -> (Book, u8) {
+        let mut book = self;
+        if results.len() < entries.len() {
+            return (book, 22);
+        }
+        for (raw, result) in entries.iter().zip(results) {
+            let (next, reply) = book.post(raw);
+            *result = reply.refusal;
+            book = next;
+        }
+        (book, 0)
+    }
+
+    /// The statement of an account.
+    #[inline(never)]
+    pub fn statement(self, account: u16, allowance: u64) -> (Book, StatementReply) {
+        let reply = self.plain.statement(account, allowance);
+        (self, reply)
+    }
+
+    /// One contribution of the account.
+    #[inline(never)]
+    pub fn contribution_query(
+        self,
+        account: u16,
+        node: u8,
+        serial: u32,
+    ) -> (Book, ContributionReply) {
+        let reply = self.plain.contribution_query(account, node, serial);
+        (self, reply)
+    }
+
+    /// Writes the image; gives refusal 0 and its length, or 21.
+    #[inline(never)]
+    pub fn save(self, buffer: &mut [u8]) -> (Book, u8, usize) {
+        let (refusal, length) = self.plain.save(buffer);
+        (self, refusal, length)
+    }
+
+    /// Reads an image: the book, refusal 0 and record 0; or a fresh book, the
+    /// first refusal and its record.
+    #[inline(never)]
+    pub fn load(image: &[u8]) -> (Book, u8, u16) {
+        if let Err(refusal) = plain::check_header(image) {
+            return (Book::fresh(), refusal, 0);
+        }
+        let mut book = Book::fresh();
+        for (record, number) in image[RECORD..].chunks_exact(RECORD).zip(1..) {
+            let (raw, next_index) = plain::parse_record(record);
+            let (next, reply) = book.post(&raw);
+            if let Err(refusal) = next.plain.check_record(reply, next_index) {
+                return (Book::fresh(), refusal, number);
+            }
+            book = next;
+        }
+        (book, 0, 0)
+    }
+}
