@@ -1,7 +1,7 @@
 -- Laws of numbers as bytes, over every width.
 use Prim.Native.Nat.{ℕ, zero, suc, _+_, _*_, _/_, _%_, _≤_, _<_}
 use mathlib.Core.Path.{_≡_, refl, ap}
-use mathlib.Core.Bool.{Bool, true, false, _&&_}
+use mathlib.Core.Bool.{true, false, and-false}
 use mathlib.Core.List.{List, [], _∷_}
 use native.Mathlib.Nat.{add-zero}
 use native.Mathlib.Numerals.{add-one}
@@ -10,6 +10,7 @@ use lib.ListN.{length, getD, take, drop}
 use lib.Seq.{drop-cons, drop-drop, getD-drop, take-nil, length-take-le}
 use lib.Dec.{eqb}
 use borrow.Author.Tests.{eq-eqb, ne-eqb, eqb-true}
+use Rattle.entries.proofs.Ranges.{both-true}
 use Rattle.codec.specs.Bytes.{le, un, cap, Bytes, eqList}
 
 pub length-le : (w x : ℕ) → length (le w x) ≡ w
@@ -77,11 +78,6 @@ pub eqList-refl : (l : List ℕ) → eqList l l ≡ true
 eqList-refl [] = refl
 eqList-refl (x ∷ l) = rw (eq-eqb x x refl) (eqList-refl l)
 
--- both tests are true
-pub both-true : (s t : Bool) → s && t ≡ true → (s ≡ true) × (t ≡ true)
-both-true true t h = (refl, h)
-both-true false t h = let z : _≡_ {A = ℕ} 0 1 = cc in absurd (omega arith)
-
 pub eqList-eq : (a b : List ℕ) → eqList a b ≡ true → a ≡ b
 eqList-eq [] [] h = refl
 eqList-eq [] (y ∷ b) h = let z : _≡_ {A = ℕ} 0 1 = cc in absurd (omega arith)
@@ -103,7 +99,3 @@ eqList-length [] [] h = absurd (h refl)
 eqList-length [] (y ∷ b) h = refl
 eqList-length (x ∷ a) [] h = refl
 eqList-length (x ∷ a) (y ∷ b) h = rw (eqList-length a b (λ e. h (ap suc e))) (and-false (eqb x y))
-  where
-    and-false : (s : Bool) → s && false ≡ false
-    and-false true = refl
-    and-false false = refl

@@ -1,7 +1,7 @@
 -- Laws of the header and of the checks before the records.
 use Prim.Native.Nat.{ℕ, _+_, _*_, _-_, _/_, _%_, _≤_, _<_}
 use mathlib.Core.Path.{_≡_, refl, sym, ap, _∙_}
-use mathlib.Core.Bool.{Bool, true, false}
+use mathlib.Core.Bool.{true, false}
 use mathlib.Core.List.{List, _++_}
 use native.Mathlib.Omega.{arith}
 use lib.ListN.{length, take, drop, replicate, length-drop}
@@ -12,9 +12,10 @@ use Rattle.entries.specs.Refusals.{ruleOf}
 use Rattle.entries.specs.declared.refusals.Refusal.{Refusal}
 use Rattle.entries.specs.declared.refusals.Check.the-variants as check
 use Rattle.entries.proofs.Rows.{silent}
+use Rattle.entries.proofs.Ranges.{both-true}
 use Rattle.codec.specs.Bytes.{le, Bytes}
 use Rattle.codec.specs.Headers.{mark, headerOf, countIn, fitsOf, marked, imageRows, checkOf}
-use Rattle.codec.proofs.Bytes.{un-le, le-un-take, bytes-drop, both-true, eqList-eq}
+use Rattle.codec.proofs.Bytes.{un-le, le-un-take, bytes-drop, eqList-eq}
 
 pub length-header : (n : ℕ) → length (headerOf n) ≡ 24
 unfolding headerOf
@@ -41,12 +42,6 @@ header-passes n rest h len =
     let c : eqb (countIn l) (length l / 24 - 1) ≡ true =
     eq-eqb (countIn l) (length l / 24 - 1) (omega (arith, count-header n rest (omega arith))) in
     simp (low, high, even, marks n rest, c)
-
--- after a refusal no rule counts
-pub refused-stays : (m n : Refusal) (broken : Bool) → ruleOf (check.Refused m) broken n ≡ check.Refused m
-unfolding ruleOf
-refused-stays m n true = refl
-refused-stays m n false = refl
 
 pub rule-broken : (n : Refusal) → ruleOf check.Passed true n ≡ check.Refused n
 unfolding ruleOf

@@ -1,4 +1,4 @@
--- A table of checks that refuses nothing: every test is false.
+-- Tables of checks: after a refusal no rule counts, and where nothing is refused every test is false.
 use mathlib.Core.Path.{_≡_, refl}
 use mathlib.Core.Bool.{Bool, true, false}
 use mathlib.Core.List.{List, [], _∷_}
@@ -8,6 +8,11 @@ use Rattle.entries.specs.Refusals.{ruleOf, Row, firstOf}
 use Rattle.entries.specs.declared.refusals.Refusal.{Refusal}
 use Rattle.entries.specs.declared.refusals.Check.{Check}
 use Rattle.entries.specs.declared.refusals.Check.the-variants.{Passed, Refused}
+
+pub refused-stays : (m n : Refusal) (broken : Bool) → ruleOf (Refused m) broken n ≡ Refused m
+unfolding ruleOf
+refused-stays m n true = refl
+refused-stays m n false = refl
 
 abbrev pub Silent : List Row → Type 0
 Silent [] = Unit {0}

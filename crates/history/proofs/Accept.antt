@@ -2,26 +2,19 @@
 use mathlib.Core.Path.{_≡_, refl, sym, ap, _∙_}
 use Prim.Native.Nat.{ℕ, _+_, _≤_, _<_}
 use native.Mathlib.Omega.{arith}
-use mathlib.Core.Bool.{Bool, true, false, cond, not, _&&_, _||_, true≢false, false≢true}
+use mathlib.Core.Bool.{Bool, true, false, cond, not, _&&_, _||_, true≢false}
 use mathlib.Core.List.{List, [], _∷_}
 use lib.ListN.{length}
 use lib.Dec.{eqb, leb, ltb}
 use borrow.Author.Tests.{ltb-false, leb-true, leb-false, eqb-true, not-false}
 use Rattle.entries.specs.Kinds.{kindOf, sameOf}
-use Rattle.entries.specs.Ranges.{amountMost, limitsOf, between, bFits, namedFits, inRangeOf}
+use Rattle.entries.specs.Ranges.{amountMost, limitsOf, bFits, inRangeOf}
 use Rattle.entries.specs.declared.raw.Raw.{Raw}
 use Rattle.entries.specs.declared.kinds.Kind.{Kind}
 use Rattle.entries.specs.declared.kinds.Kind.the-variants as kind
+use Rattle.entries.proofs.Ranges.{inside, ranged}
 use Rattle.history.specs.History.{accounts, entries, period, History, lastSerial, naming, suits, Sought, missing, found, find, named, Fate, fate, entryIn, fateIn, Balance, balance, Row, firstOf, refusals, judge}
 use Rattle.history.specs.Laws.{Valid, empty, joins}
-
-pub and-left : (a b : Bool) → (a && b) ≡ true → a ≡ true
-and-left true b e = refl
-and-left false b e = e
-
-pub and-right : (a b : Bool) → (a && b) ≡ true → b ≡ true
-and-right true b e = e
-and-right false b e = absurd (false≢true e)
 
 or-left : (a b : Bool) → (a || b) ≡ false → a ≡ false
 or-left true b e = e
@@ -73,20 +66,15 @@ pub record InRange (r : Raw) (k : Kind) : Type 0 where
   pub b : r .b ≤ 62
 
 in-range : (r : Raw) (k : Kind) → inRangeOf r k ≡ true → InRange r k
-unfolding inRangeOf between
 in-range r k e =
     let l = limitsOf k (r .a) in
-    let amounts = between (r .amount) (l .«amount_low») (l .«amount_high») in
-    let metres = between (r .a) (l .«a_low») (l .«a_high») in
-    let first = and-left (amounts && namedFits r (l .named)) _ e in
-    let second = and-right (amounts && namedFits r (l .named)) _ e in
-    let amount : r .amount ≤ l .«amount_high» = leb-true _ _ (and-right (leb (l .«amount_low») (r .amount)) _ (and-left amounts _ first)) in
-    let a : r .a ≤ l .«a_high» = leb-true _ _ (and-right (leb (l .«a_low») (r .a)) _ (and-left metres _ second)) in
+    let s = ranged r k e in
+    let h = highs k (r .a) in
     record {
-      amount = omega (arith, highs k (r .a) .0);
-      a = omega (arith, highs k (r .a) .1);
-      a-kind = a;
-      b = b-fits r (l .phases) (l .«b_high») (highs k (r .a) .2 a) (and-right metres _ second);
+      amount = omega (arith, s .amount .1, h .0);
+      a = omega (arith, s .a .1, h .1);
+      a-kind = s .a .1;
+      b = b-fits r (l .phases) (l .«b_high») (h .2 (s .a .1)) (s .b);
     }
 
 rate-high : (a : ℕ) → limitsOf kind.Deposit a .«a_high» ≡ 2000
@@ -111,18 +99,17 @@ pub record Passed (h : History) (r : Raw) (k : Kind) (e : Raw) (f : Fate) (b : B
   pub uncorrected : ((sameOf (kindOf (e .kind)) kind.Bill || sameOf (kindOf (e .kind)) kind.Payment) && f .corrected) ≡ false
 
 pass : (h : History) (r : Raw) (k : Kind) (e : Raw) (f : Fate) (b : Balance) → firstOf (refusals h r k e f b) ≡ 0 → Passed h r k e f b
-unfolding between
 pass h r k e f b z =
     let s = silent (refusals h r k e f b) (omega arith) z in
-    let node = not-false _ (s .1 .0) in
-    let account = not-false _ (s .1 .1 .0) in
+    let node = inside (r .node) 1 2 (not-false _ (s .1 .0)) in
+    let account = inside (r .account) 1 accounts (not-false _ (s .1 .1 .0)) in
     let late = s .1 .1 .1 .1 .1 in
     record {
       kind-known = s .0;
-      node-low = leb-true _ _ (and-left (leb 1 (r .node)) _ node);
-      node-high = leb-true _ _ (and-right (leb 1 (r .node)) _ node);
-      account-low = leb-true _ _ (and-left (leb 1 (r .account)) _ account);
-      account-high = leb-true _ _ (and-right (leb 1 (r .account)) _ account);
+      node-low = node .0;
+      node-high = node .1;
+      account-low = account .0;
+      account-high = account .1;
       day = ltb-false _ _ (s .1 .1 .1 .0);
       ranges = in-range r k (not-false _ (s .1 .1 .1 .1 .0));
       serial-above = leb-false _ _ (late .0);

@@ -6,8 +6,8 @@ use mathlib.Core.Bool.{Bool, true, false, cond}
 use mathlib.Core.List.{List, [], _∷_}
 use lib.ListN.{length, getD, set, length-set, length-replicate, getD-replicate}
 use lib.Seq.{take-all, getD-set-same, getD-set-other}
-use lib.Dec.{eqb, leb}
-use borrow.Author.Tests.{eqb-true, eqb-false, eq-eqb, le-leb, leb-true}
+use lib.Dec.{eqb}
+use borrow.Author.Tests.{eqb-true, eqb-false, eq-eqb, le-leb}
 use Rattle.entries.specs.Kinds.{kindOf, sameOf}
 use Rattle.entries.specs.Ranges.{between}
 use Rattle.entries.specs.Refusals.{refusalNumber}
@@ -19,9 +19,9 @@ use Rattle.entries.specs.declared.data.Entry.{Entry}
 use Rattle.entries.specs.declared.data.Data.{Data}
 use Rattle.entries.specs.declared.data.Data.the-variants as data′
 use Rattle.entries.specs.declared.refusals.Refusal.{Refusal}
-use Rattle.entries.specs.declared.refusals.Refusal.the-variants as no
 use Rattle.entries.specs.declared.refusals.Check.{Check}
 use Rattle.entries.specs.declared.refusals.Check.the-variants as check
+use Rattle.entries.proofs.Ranges.{inside}
 use Rattle.rules.specs.Formulas.{billed, interest}
 use Rattle.rules.specs.Accounts.{noAccount, numberedOf}
 use Rattle.rules.specs.Answers.{replyOf}
@@ -41,15 +41,16 @@ use Rattle.book.specs.Posting.{accountAt, lookupOf, namedAt, rewritten, storedO
 use Rattle.book.specs.declared.Book.{Book}
 use Rattle.book.specs.declared.Serials.{Serials}
 use Rattle.queries.specs.Chain.{chainAt}
+use Rattle.image.proofs.Loading.{refusal-above, checkNumber}
 use Rattle.history.specs.History.{History, accounts, entries, lastSerial, naming, Sought, missing, found, find, named, posted, refundOf, change, fate, entryIn, fateIn, Balance, Move, stays, charges, credits, refunds, deposits, returns, retains, moved, moveBy, balance, Amounts, answered, amounts, judge, joined, offer, repliedBy, repliedOf, toArrears, refundsPaid}
 use Rattle.history.specs.Laws.{Valid, empty, joins}
 use Rattle.history.specs.Agreement.{newestOf, keptAccount, keptData, dataIn, keptEntry, keptChain, Rows, start, more, Agrees, Kept, Agreement}
-use Rattle.history.proofs.Accept.{and-left, and-right, accepts, fits, named-none, Sort, as-contribution, as-added, as-bill, as-payment, as-deposit, as-return, as-expiry, as-correction, correctable, sorted, Role, alone, upon, role}
+use Rattle.history.proofs.Accept.{accepts, fits, named-none, Sort, as-contribution, as-added, as-bill, as-payment, as-deposit, as-return, as-expiry, as-correction, correctable, sorted, Role, alone, upon, role}
 use Rattle.history.proofs.Names.{hit, unnamed, no-customers, plain, misses-kind, hits, names-points, fate-miss, fate-hit, customers-miss, customers-hit, customers-other}
 use Rattle.history.proofs.Moves.{named-at, move-contribution, move-bill, move-payment, move-deposit, move-return, move-added, move-expiry, move-correction, corrects}
 use Rattle.history.proofs.Conserve.{postedAs, divide}
 use Rattle.history.proofs.Bound.{in-ranges, billed-small, interest-small, added-small, standing-small, bounded}
-use Rattle.history.proofs.Tables.{checkNumber, state-same, check-same}
+use Rattle.history.proofs.Tables.{state-same, check-same}
 use Rattle.history.proofs.Search.{placeOf, links, chain-short, kept-found, lookup-same, alike, last-same}
 use Rattle.history.proofs.Effects.{changeBy, contribution-effect, bill-effect, payment-effect, deposit-effect, return-effect, added-effect, expiry-effect, correction-effect}
 use Rattle.history.proofs.Stored.{slot-at, rows-past, rows-miss, rows-hit}
@@ -57,45 +58,22 @@ use Rattle.history.proofs.Stored.{slot-at, rows-past, rows-miss, rows-h
 -- THE REFUSAL
 module _ {b : Book} {h : History} (w : Agrees b h) (v : Valid h) (r : Raw) where
   pub refusal-same : checkNumber (checkStateOf (checkEntryOf r (kindOf (r .kind)) (b .count) (lastOf (b .last) (r .node))) r (kindOf (r .kind)) (accountAt b (r .account)) (namedAt b r)) ≡ judge h r
-  unfolding judge between
+  unfolding judge
   refusal-same =
       check-same h r (kindOf (r .kind)) (b .count) (lastOf (b .last) (r .node)) (accountAt b (r .account)) (namedAt b r) (entryIn (named h r)) (fateIn h (named h r)) (balance h (r .account)) (w .counted)
       (λ t. last-same w (fits v) r t)
       (λ t. let e = alike w (fits v) r t in
-      rw (w .account (r .account) (leb-true 1 (r .account) (and-left (leb 1 (r .account)) _ t)) (leb-true (r .account) accounts (and-right (leb 1 (r .account)) _ t)))
+      let i = inside (r .account) 1 accounts t in
+      rw (w .account (r .account) (i .0) (i .1))
       (state-same h r (kindOf (r .kind)) (newestOf h (r .account)) (balance h (r .account)) (namedAt b r) (entryIn (named h r)) (fateIn h (named h r)) (e .on) (e .seen)))
 
-positive : (n : Refusal) → 0 < refusalNumber n
-positive no.UnknownKind = omega arith
-positive no.UnknownNode = omega arith
-positive no.UnknownAccount = omega arith
-positive no.UnknownDay = omega arith
-positive no.FieldOutOfRange = omega arith
-positive no.SerialNotNew = omega arith
-positive no.BookFull = omega arith
-positive no.NotOnChain = omega arith
-positive no.DepositState = omega arith
-positive no.DayBefore = omega arith
-positive no.Closed = omega arith
-positive no.PeriodOver = omega arith
-positive no.PeriodRunning = omega arith
-positive no.OnePhase = omega arith
-positive no.MetresExceeded = omega arith
-positive no.CorrectedBefore = omega arith
-positive no.ImageLength = omega arith
-positive no.ImageHeader = omega arith
-positive no.ImageCount = omega arith
-positive no.NextIndex = omega arith
-positive no.BufferShort = omega arith
-positive no.ResultsShort = omega arith
-
 decided-passed : (c : Check) (o : Outcome) → checkNumber c ≡ 0 → decidedOf c o ≡ o
-unfolding decidedOf
+unfolding decidedOf checkNumber
 decided-passed check.Passed o e = refl
-decided-passed (check.Refused n) o e = absurd (omega (arith, positive n))
+decided-passed (check.Refused n) o e = absurd (omega (arith, refusal-above n))
 
 decided-refused : (c : Check) (o : Outcome) (n : ℕ) → checkNumber c ≡ suc n → (m : Refusal) × (decidedOf c o ≡ Refused m) × (refusalNumber m ≡ suc n)
-unfolding decidedOf
+unfolding decidedOf checkNumber
 decided-refused check.Passed o n e = absurd (omega arith)
 decided-refused (check.Refused m) o n e = (m, refl, e)
 

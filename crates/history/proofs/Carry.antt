@@ -26,12 +26,12 @@ pub number-same : (b : Book) (h : History) → Kept b h → (r : Raw) → postOf
 number-same b h w r = ap (λ (x : Reply). x .refusal) (agreement .replied b h w r) ∙ replied-number h r
 
 pub keeps-all : (b : Book) (h : History) → Kept b h → (rs : List Raw) → Kept (postsOf b rs) (offers h rs)
-unfolding postsOf offers
+unfolding postsOf
 keeps-all b h w [] = w
 keeps-all b h w (r ∷ rs) = keeps-all (postOf b r .book) (offer h r) (agreement .posted b h w r) rs
 
 pub numbers-same : (b : Book) (h : History) → Kept b h → (rs : List Raw) → refusalsOf b rs ≡ verdicts h rs
-unfolding refusalsOf verdicts
+unfolding refusalsOf
 numbers-same b h w [] = refl
 numbers-same b h w (r ∷ rs) =
     ap₂ (λ n ns. n ∷ ns) (number-same b h w r) (numbers-same (postOf b r .book) (offer h r) (agreement .posted b h w r) rs)

@@ -3,7 +3,7 @@ use Prim.Native.Nat.{ℕ, _+_, _*_, min}
 use mathlib.Core.Path.{_≡_, refl, ap, ap₂}
 use native.Mathlib.Omega.{arith}
 use mathlib.Core.Bool.{Bool, true, false, cond}
-use mathlib.Core.List.{List, [], _∷_}
+use mathlib.Core.List.{List, [], _∷_, foldl}
 use lib.ListN.{length}
 use lib.Dec.{ltb}
 use Rattle.rules.specs.declared.accounts.Account.{Account}
@@ -11,10 +11,10 @@ use Rattle.book.specs.Fresh.{freshBook}
 use Rattle.book.specs.declared.Book.{Book}
 use Rattle.queries.specs.Chain as chains
 use Rattle.image.specs.Saves.{refusedSave, acceptedSave, saveOf}
-use Rattle.history.specs.History.{History, heldOf}
+use Rattle.history.specs.History.{History, along, heldOf}
 use Rattle.history.specs.Agreement.{Kept}
-use Rattle.history.specs.Calls.{Call, posting, carryOver, statement, contribution, save, posted, carried, stated, given, saved, callOffers, saveIn, answerIn, historyAfter, answersIn, historyOf}
-use Rattle.history.specs.Claim.{callBook, callAnswer, bookAfter, answers, bookOf, Demand3}
+use Rattle.history.specs.Calls.{Call, posting, carryOver, statement, contribution, save, posted, carried, stated, given, saved, callOffers, saveIn, answerIn, historyOf}
+use Rattle.history.specs.Claim.{callBook, callAnswer, bookAfter, bookOf, Demand3}
 use Rattle.history.proofs.Accept.{fits}
 use Rattle.history.proofs.Lawful.{laws}
 use Rattle.history.proofs.Agree.{agreement}
@@ -49,13 +49,11 @@ answer-same b h w (statement account allowance) = ap stated (statement-same w ac
 answer-same b h w (contribution account node serial) = ap given (contribution-same w account node serial)
 answer-same b h w (save buffer) = save-same b h w buffer
 
-keeps-calls : (b : Book) (h : History) → Kept b h → (cs : List Call) → Kept (bookAfter b cs) (historyAfter h cs)
-unfolding bookAfter historyAfter
+keeps-calls : (b : Book) (h : History) → Kept b h → (cs : List Call) → Kept (bookAfter b cs) (foldl callOffers h cs)
 keeps-calls b h w [] = w
 keeps-calls b h w (c ∷ cs) = keeps-calls (callBook b c) (callOffers h c) (keeps-call b h w c) cs
 
-answers-same : (b : Book) (h : History) → Kept b h → (cs : List Call) → answers b cs ≡ answersIn h cs
-unfolding answers answersIn
+answers-same : (b : Book) (h : History) → Kept b h → (cs : List Call) → along callBook callAnswer b cs ≡ along callOffers answerIn h cs
 answers-same b h w [] = refl
 answers-same b h w (c ∷ cs) = ap₂ (λ x xs. x ∷ xs) (answer-same b h w c) (answers-same (callBook b c) (callOffers h c) (keeps-call b h w c) cs)
 

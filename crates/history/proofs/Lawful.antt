@@ -35,7 +35,6 @@ valid-offer {h} v r = go (judge h r) refl
 
 -- what offers give, from a valid history on
 pub valid-offers : {h : History} → Valid h → (rs : List Raw) → Valid (offers h rs)
-unfolding offers
 valid-offers v [] = v
 valid-offers v (r ∷ rs) = valid-offers (valid-offer v r) rs
 

@@ -11,9 +11,10 @@ use Rattle.entries.specs.Kinds.{kindOf, sameOf}
 use Rattle.entries.specs.declared.raw.Raw.{Raw}
 use Rattle.entries.specs.declared.kinds.Kind.{Kind}
 use Rattle.entries.specs.declared.kinds.Kind.the-variants as kind
+use Rattle.entries.proofs.Ranges.{both-true}
 use Rattle.history.specs.History.{period, History, lastSerial, naming, points, names, Sought, missing, found, find, Fate, posted, change, fate, Amounts, amounts, judge, ofCustomers}
 use Rattle.history.specs.Laws.{Valid, empty, joins, In, newest, older, Again, Once}
-use Rattle.history.proofs.Accept.{and-left, and-right, accepts, Sort, as-contribution, as-added, as-bill, as-payment, as-deposit, as-return, as-expiry, as-correction, sorted, Role, alone, upon, role}
+use Rattle.history.proofs.Accept.{accepts, Sort, as-contribution, as-added, as-bill, as-payment, as-deposit, as-return, as-expiry, as-correction, sorted, Role, alone, upon, role}
 
 -- last serials rise
 pub last-up : (h : History) (c : Raw) (n : ℕ) → judge h c ≡ 0 → lastSerial h n ≤ lastSerial (c ∷ h) n
@@ -38,12 +39,9 @@ pub record Pointed (c e : Raw) : Type 0 where
 pub pointed : (c e : Raw) → points c e ≡ true → Pointed c e
 unfolding points
 pointed c e t =
-    let f = and-right (eqb (e .account) (c .account)) _ t in
-    record {
-      account = eqb-true _ _ (and-left (eqb (e .account) (c .account)) _ t);
-      node = eqb-true _ _ (and-left (eqb (e .node) (c .«named_node»)) _ f);
-      serial = eqb-true _ _ (and-right (eqb (e .node) (c .«named_node»)) _ f);
-    }
+    let own = both-true _ _ t in
+    let pair = both-true _ _ (own .1) in
+    record { account = eqb-true _ _ (own .0); node = eqb-true _ _ (pair .0); serial = eqb-true _ _ (pair .1) }
 
 pub points-at : (c e : Raw) → Pointed c e → points c e ≡ true
 unfolding points

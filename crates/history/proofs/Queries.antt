@@ -6,8 +6,7 @@ use native.Mathlib.Nat.{min-eq-left}
 use mathlib.Core.Bool.{Bool, true, false, cond, not, _&&_}
 use mathlib.Core.List.{[], _∷_}
 use lib.ListN.{length, take}
-use lib.Dec.{eqb, leb}
-use borrow.Author.Tests.{leb-true}
+use lib.Dec.{eqb}
 use Rattle.measures.specs.Cents.{most}
 use Rattle.entries.specs.Kinds.{kindOf, sameOf}
 use Rattle.entries.specs.Ranges.{between}
@@ -21,6 +20,7 @@ use Rattle.entries.specs.declared.data.Data.{Data}
 use Rattle.entries.specs.declared.data.Data.the-variants as data′
 use Rattle.entries.specs.declared.refusals.Refusal.the-variants as no
 use Rattle.entries.specs.declared.refusals.Check.the-variants as check
+use Rattle.entries.proofs.Ranges.{inside}
 use Rattle.book.specs.Posting.{accountAt}
 use Rattle.book.specs.declared.Book.{Book}
 use Rattle.queries.specs.Chain.{chainAt, totalOf, standingOf, carries, soughtOf}
@@ -33,7 +33,7 @@ use Rattle.history.specs.History.{History, accounts, points, names, Soug
 use Rattle.history.specs.Laws.{Valid, empty, joins}
 use Rattle.history.specs.Agreement.{keptData, dataIn, keptEntry, keptChain, Kept}
 use Rattle.history.specs.Queries.{entriesOf, statementBy, statementIn, contributionBy, contributionIn}
-use Rattle.history.proofs.Accept.{and-left, and-right, accepts, fits, InRange, correctable}
+use Rattle.history.proofs.Accept.{accepts, fits, InRange, correctable}
 use Rattle.history.proofs.Names.{fate-cases}
 use Rattle.history.proofs.Bound.{large, standing-small}
 use Rattle.history.proofs.Agree.{agreement}
@@ -155,12 +155,12 @@ module _ {b : Book} {h : History} (w : Kept b h) where
       rw (agreement .chain b h w a l m, w .agrees .account a l m, held-fits a, standing-fits true a n, standing-fits false a n, chain-length h h a) refl
 
   pub statement-same : (a n : ℕ) → statementOf b a n ≡ statementIn h a n
-  unfolding statementOf statementIn statements.decidedOf ruleOf between statementReplyOf
+  unfolding statementOf statementIn statements.decidedOf ruleOf statementReplyOf
   statement-same a n = go (between a 1 accounts) refl
     where
       go : (t : Bool) → between a 1 accounts ≡ t →
           statements.decidedOf (ruleOf check.Passed (not t) no.UnknownAccount) (givenOf (accountAt b a) (chainAt b a) n) ≡ statementBy (cond (not t) 3 0) h a n
-      go true e = given-same a n (leb-true 1 a (and-left (leb 1 a) _ e)) (leb-true a accounts (and-right (leb 1 a) _ e))
+      go true e = let i = inside a 1 accounts e in given-same a n (i .0) (i .1)
       go false e = refl
 
 -- CONTRIBUTION QUERY
@@ -201,7 +201,7 @@ module _ (all : History) where
 
 module _ {b : Book} {h : History} (w : Kept b h) where
   pub contribution-same : (a node serial : ℕ) → contributionQueryOf b a node serial ≡ contributionIn h a node serial
-  unfolding contributionQueryOf contributionIn contributions.decidedOf ruleOf between contributionReplyOf
+  unfolding contributionQueryOf contributionIn contributions.decidedOf ruleOf contributionReplyOf
   contribution-same a node serial = go (between node 1 2) (between a 1 accounts) refl
     where
       go : (t u : Bool) → between a 1 accounts ≡ u →
@@ -210,7 +210,8 @@ module _ {b : Book} {h : History} (w : Kept b h) where
           (cond (not t) 2 (cond (not u) 3 (cond (not (sameOf (kindOf (entryIn (find h (asking a node serial)) .kind)) kind.Contribution)) 8 0)))
           h (entryIn (find h (asking a node serial)))
       go true true e =
-          rw (agreement .chain b h w a (leb-true 1 a (and-left (leb 1 a) _ e)) (leb-true a accounts (and-right (leb 1 a) _ e)), sought-same h h a node serial)
+          let i = inside a 1 accounts e in
+          rw (agreement .chain b h w a (i .0) (i .1), sought-same h h a node serial)
           (figures-found h (find h (asking a node serial)))
       go true false e = refl
       go false true e = refl

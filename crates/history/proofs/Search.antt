@@ -5,8 +5,8 @@ use native.Mathlib.Omega.{arith}
 use mathlib.Core.Bool.{Bool, true, false, cond, _&&_}
 use mathlib.Core.List.{List, [], _∷_}
 use lib.ListN.{length, getD, take}
-use lib.Dec.{eqb, leb}
-use borrow.Author.Tests.{eqb-true, eqb-false, ne-eqb, le-ltb, leb-true}
+use lib.Dec.{eqb}
+use borrow.Author.Tests.{eqb-true, eqb-false, ne-eqb, le-ltb}
 use Rattle.entries.specs.Kinds.{kindOf, namesOf}
 use Rattle.entries.specs.Ranges.{between}
 use Rattle.entries.specs.Entries.{noEntry, entryOf, pointsAt, namedOf}
@@ -14,6 +14,7 @@ use Rattle.entries.specs.declared.raw.Raw.{Raw}
 use Rattle.entries.specs.declared.kinds.Kind.{Kind}
 use Rattle.entries.specs.declared.kinds.Kind.the-variants as kind
 use Rattle.entries.specs.declared.data.Entry.{Entry}
+use Rattle.entries.proofs.Ranges.{inside}
 use Rattle.rules.specs.declared.changes.Found.{Found}
 use Rattle.rules.specs.declared.changes.Found.the-variants.{At, Nothing}
 use Rattle.book.specs.Serials.{lastOf}
@@ -24,7 +25,7 @@ use Rattle.book.proofs.Chain.{findIn-none, findIn-ends, findIn-hit, findIn-miss
 use Rattle.queries.specs.Chain.{chainOf}
 use Rattle.history.specs.History.{History, accounts, entries, lastSerial, naming, points, Sought, missing, found, find, named, Fate, posted, fate, asking, entryIn, fateIn}
 use Rattle.history.specs.Agreement.{newestOf, keptData, keptEntry, keptChain, Rows, start, more, Agrees}
-use Rattle.history.proofs.Accept.{and-left, and-right, no-kind}
+use Rattle.history.proofs.Accept.{no-kind}
 use Rattle.history.proofs.Tables.{Seen}
 
 abbrev pub placeOf : Sought → Found
@@ -169,9 +170,10 @@ alike-kept all g x = record { on = refl; seen = seen-data (kindOf (x .kind)) x (
 
 module _ {b : Book} {h : History} (w : Agrees b h) (m : length h ≤ entries) where
   pub lookup-same : (r : Raw) → between (r .account) 1 accounts ≡ true → lookupOf b r ≡ placeOf (named h r)
-  unfolding lookupOf named startOf between
+  unfolding lookupOf named startOf
   lookup-same r t =
-      rw (w .account (r .account) (leb-true _ _ (and-left (leb 1 (r .account)) _ t)) (leb-true _ _ (and-right (leb 1 (r .account)) _ t)), names-same (kindOf (r .kind)))
+      let i = inside (r .account) 1 accounts t in
+      rw (w .account (r .account) (i .0) (i .1), names-same (kindOf (r .kind)))
       (go (naming (kindOf (r .kind))))
     where
       go : (t : Bool) → findIn (b .entries) r 1024 (cond t (newestOf h (r .account)) 0) ≡ placeOf (cond t (find h r) missing)
@@ -192,14 +194,13 @@ module _ {b : Book} {h : History} (w : Agrees b h) (m : length h ≤ entries) wh
       go false = alike-none
 
   pub last-same : (r : Raw) → between (r .node) 1 2 ≡ true → lastOf (b .last) (r .node) ≡ lastSerial h (r .node)
-  unfolding lastOf between
+  unfolding lastOf
   last-same r t = go (eqb (r .node) 1) refl
     where
       go : (u : Bool) → eqb (r .node) 1 ≡ u → cond u (b .last .«node_1») (b .last .«node_2») ≡ lastSerial h (r .node)
       go true e = w .last-1 ∙ ap (λ n. lastSerial h n) (sym (eqb-true (r .node) 1 e))
       go false e =
-          let low = leb-true 1 (r .node) (and-left (leb 1 (r .node)) _ t) in
-          let high = leb-true (r .node) 2 (and-right (leb 1 (r .node)) _ t) in
+          let i = inside (r .node) 1 2 t in
           let other = eqb-false (r .node) 1 e in
           let two : 2 ≡ r .node = omega arith in
           w .last-2 ∙ ap (λ n. lastSerial h n) two

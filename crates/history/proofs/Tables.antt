@@ -2,7 +2,7 @@
 use mathlib.Core.Path.{_≡_, refl, sym, ap, _∙_}
 use Prim.Native.Nat.{ℕ, _+_, _-_}
 use native.Mathlib.Omega.{arith}
-use mathlib.Core.Bool.{Bool, true, false, cond, not, _&&_, _||_}
+use mathlib.Core.Bool.{Bool, true, false, cond, not, _&&_, _||_, or-false}
 use mathlib.Core.List.{List, [], _∷_, _++_}
 use lib.ListN.{length, drop}
 use lib.Dec.{eqb, leb, ltb}
@@ -20,20 +20,16 @@ use Rattle.entries.specs.declared.kinds.Kind.the-variants as kind
 use Rattle.entries.specs.declared.data.Entry.{Entry}
 use Rattle.entries.specs.declared.data.Named.{Named}
 use Rattle.entries.specs.declared.refusals.Refusal.{Refusal}
-use Rattle.entries.specs.declared.refusals.Check.{Check}
 use Rattle.entries.specs.declared.refusals.Check.the-variants as check
 use Rattle.measures.specs.declared.Day.{Day}
+use Rattle.entries.proofs.Rows.{refused-stays}
 use Rattle.rules.specs.Checks.{depositClash, stateRows, checkStateOf, refundPeriod}
 use Rattle.rules.specs.declared.accounts.Account.{Account}
 use Rattle.book.specs.Refusals.{entryRows, checkEntryOf}
+use Rattle.image.proofs.Loading.{checkNumber}
 use Rattle.history.specs.History.{History, naming, suits, period, lastSerial, Fate, Balance, Row, firstOf, refusals}
 use Rattle.history.specs.Agreement.{keptAccount}
 use Rattle.history.proofs.Accept.{is-contribution}
-
--- document 01's number of a check, 0 where it passed
-abbrev pub checkNumber : Check → ℕ
-checkNumber check.Passed = 0
-checkNumber (check.Refused n) = refusalNumber n
 
 -- row by row the same test and number, each as far as no earlier row stops the entry
 abbrev pub Same : List checks.Row → List Row → Type 0
@@ -42,17 +38,12 @@ Same [] (y ∷ ys) = ⊥
 Same (x ∷ xs) [] = ⊥
 Same (x ∷ xs) (y ∷ ys) = (x .broken ≡ y .broken) × (refusalNumber (x .refusal) ≡ y .number) × (y .broken ≡ false → Same xs ys)
 
-refused-stays : (n : Refusal) (t : Bool) (m : Refusal) → ruleOf (check.Refused n) t m ≡ check.Refused n
-unfolding ruleOf
-refused-stays n true m = refl
-refused-stays n false m = refl
-
 refused-first : (n : Refusal) (xs : List checks.Row) → checks.firstOf (check.Refused n) xs ≡ check.Refused n
 refused-first n [] = refl
-refused-first n (x ∷ xs) = rw (refused-stays n (x .broken) (x .refusal)) (refused-first n xs)
+refused-first n (x ∷ xs) = rw (refused-stays n (x .refusal) (x .broken)) (refused-first n xs)
 
 pub first-same : (xs : List checks.Row) (ys : List Row) → Same xs ys → checkNumber (checks.firstOf check.Passed xs) ≡ firstOf ys
-unfolding ruleOf
+unfolding ruleOf checkNumber
 first-same [] [] s = refl
 first-same [] (y ∷ ys) s = absurd s
 first-same (x ∷ xs) [] s = absurd s
@@ -89,17 +80,13 @@ misnames-same kind.DepositReturn l = refl
 misnames-same kind.Expiry l = refl
 misnames-same kind.Correction l = refl
 
-or-false : (t : Bool) → t ≡ (t || false)
-or-false true = refl
-or-false false = refl
-
 clash-same : (k : Kind) (d : ℕ) → depositClash k (cents d) ≡ (sameOf k kind.Deposit && ltb 0 d || sameOf k kind.DepositReturn && eqb d 0)
 clash-same kind.Unknown d = refl
 clash-same kind.Contribution d = refl
 clash-same kind.AddedCustomer d = refl
 clash-same kind.Bill d = refl
 clash-same kind.Payment d = refl
-clash-same kind.Deposit d = or-false (ltb 0 d)
+clash-same kind.Deposit d = sym (or-false (ltb 0 d))
 clash-same kind.DepositReturn d = refl
 clash-same kind.Expiry d = refl
 clash-same kind.Correction d = refl

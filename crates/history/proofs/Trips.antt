@@ -27,7 +27,7 @@ one-call b (contribution account node serial) = refl
 one-call b (save buffer) = refl
 
 all-calls : (b : Book) (cs : List Call) → bookAfter b cs ≡ postsOf b (offered cs)
-unfolding bookAfter offered postsOf
+unfolding offered postsOf
 all-calls b [] = refl
 all-calls b (c ∷ cs) =
     all-calls (callBook b c) cs ∙ ap (λ (x : Book). postsOf x (offered cs)) (one-call b c) ∙ posts-append b (offeredBy c) (offered cs)

@@ -1,14 +1,14 @@
 -- Lists of calls, and what the history says of them. Nothing here reads a book.
 use Prim.Native.Nat.{ℕ, _+_, _*_}
 use mathlib.Core.Bool.{cond}
-use mathlib.Core.List.{List, [], _∷_}
+use mathlib.Core.List.{List, [], foldl}
 use lib.ListN.{length}
 use lib.Dec.{ltb}
 use Rattle.entries.specs.declared.raw.Raw.{Raw}
 use Rattle.rules.specs.declared.answers.Reply.{Reply}
 use Rattle.queries.specs.declared.statements.StatementReply.{StatementReply}
 use Rattle.queries.specs.declared.contributions.ContributionReply.{ContributionReply}
-use Rattle.history.specs.History.{History, offer, repliedOf, tooShort, carryOffers, carryVerdicts}
+use Rattle.history.specs.History.{History, offer, along, repliedOf, tooShort, carryOffers, carryVerdicts}
 use Rattle.history.specs.Queries.{statementIn, contributionIn}
 
 -- what the calls are given
@@ -46,15 +46,9 @@ answerIn h (statement account allowance) = stated (statementIn h account allowan
 answerIn h (contribution account node serial) = given (contributionIn h account node serial)
 answerIn h (save buffer) = saveIn h buffer
 
--- the history after a list of calls, and its answer to each at its point
-unfoldable pub historyAfter : History → List Call → History
-historyAfter h [] = h
-historyAfter h (c ∷ cs) = historyAfter (callOffers h c) cs
-
-unfoldable pub answersIn : History → List Call → List Answer
-answersIn h [] = []
-answersIn h (c ∷ cs) = answerIn h c ∷ answersIn (callOffers h c) cs
-
--- it begins empty
+-- the history after a list of calls, which begins empty, and its answer to each at its point
 abbrev pub historyOf : List Call → History
-historyOf cs = historyAfter [] cs
+historyOf cs = foldl callOffers [] cs
+
+abbrev pub answersIn : List Call → List Answer
+answersIn cs = along callOffers answerIn [] cs

@@ -1,7 +1,7 @@
 -- Demand 3: one claim about a list of calls as a whole.
 use Prim.Native.Nat.{ℕ, _≤_}
 use mathlib.Core.Path.{_≡_}
-use mathlib.Core.List.{List, [], _∷_}
+use mathlib.Core.List.{List, foldl}
 use Rattle.book.specs.Fresh.{freshBook}
 use Rattle.book.specs.Posting.{accountAt, postOf}
 use Rattle.book.specs.declared.Book.{Book}
@@ -10,7 +10,7 @@ use Rattle.queries.specs.Chain as chains
 use Rattle.queries.specs.Statement.{statementOf}
 use Rattle.queries.specs.Contribution.{contributionQueryOf}
 use Rattle.image.specs.Saves.{saveOf}
-use Rattle.history.specs.History.{accounts, balance, total, heldOf}
+use Rattle.history.specs.History.{accounts, along, balance, total, heldOf}
 use Rattle.history.specs.Laws.{Lawful}
 use Rattle.history.specs.Agreement.{Kept}
 use Rattle.carry.specs.Carry.{carryRefusalOf, carryBookOf, carryResultsOf}
@@ -31,23 +31,21 @@ callAnswer b (statement account allowance) = stated (statementOf b account allow
 callAnswer b (contribution account node serial) = given (contributionQueryOf b account node serial)
 callAnswer b (save buffer) = saved (saveOf b buffer .refusal) (saveOf b buffer .bytes)
 
-unfoldable pub bookAfter : Book → List Call → Book
-bookAfter b [] = b
-bookAfter b (c ∷ cs) = bookAfter (callBook b c) cs
+abbrev pub bookAfter : Book → List Call → Book
+bookAfter b cs = foldl callBook b cs
 
-unfoldable pub answers : Book → List Call → List Answer
-answers b [] = []
-answers b (c ∷ cs) = callAnswer b c ∷ answers (callBook b c) cs
-
--- the book that a list of calls makes of a fresh one
+-- the book that a list of calls makes of a fresh one, and the answers
 abbrev pub bookOf : List Call → Book
 bookOf cs = bookAfter freshBook cs
+
+abbrev pub answersOf : List Call → List Answer
+answersOf cs = along callBook callAnswer freshBook cs
 
 pub record Right (cs : List Call) : Type 0 where
   -- Every answer in the list is the history's at that point: an offered entry's refusal number is 0 exactly when it joins; which
   -- calls are refused, which statements are complete and an accepted posting's four amounts; and what every accepted statement,
   -- contribution query and save gives.
-  pub answered : answers freshBook cs ≡ answersIn [] cs
+  pub answered : answersOf cs ≡ answersIn cs
   -- the book after the list has the history's arrears
   pub arrears : (a : ℕ) → 1 ≤ a → a ≤ accounts → accountAt (bookOf cs) a .arrears .0 ≡ balance (historyOf cs) a .arrears
   -- its credit

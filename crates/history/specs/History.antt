@@ -2,7 +2,7 @@
 -- Nothing here reads a book. All numbers are plain ones: no sum stops at a limit.
 use Prim.Native.Nat.{ℕ, zero, suc, _+_, _-_}
 use mathlib.Core.Bool.{Bool, true, false, cond, not, _&&_, _||_}
-use mathlib.Core.List.{List, [], _∷_, _++_}
+use mathlib.Core.List.{List, [], _∷_, _++_, foldl}
 use lib.ListN.{length, drop}
 use lib.Dec.{eqb, leb, ltb}
 use Rattle.entries.specs.Kinds.{kindOf, sameOf}
@@ -242,9 +242,13 @@ joined (suc n) r h = h
 unfoldable pub offer : History → Raw → History
 offer h r = joined (judge h r) r h
 
-unfoldable pub offers : History → List Raw → History
-offers h [] = h
-offers h (r ∷ rs) = offers (offer h r) rs
+abbrev pub offers : History → List Raw → History
+offers h rs = foldl offer h rs
+
+-- what each of a list is answered at its point, where `step` gives the next state
+abbrev pub along : {S A B : Type 0} → (S → A → S) → (S → A → B) → S → List A → List B
+along step answer s [] = []
+along step answer s (x ∷ xs) = answer s x ∷ along step answer (step s x) xs
 
 -- refused: the number and otherwise zeros; accepted: the entry's number and the four amounts
 abbrev pub repliedBy : ℕ → ℕ → Amounts → Reply
@@ -255,9 +259,8 @@ unfoldable pub repliedOf : History → Raw → Reply
 repliedOf h r = repliedBy (judge h r) (length h + 1) (amounts h r)
 
 -- in a carry-over each entry is offered in turn; its refusal number, or 0, goes to the same place of the result list
-unfoldable pub verdicts : History → List Raw → List ℕ
-verdicts h [] = []
-verdicts h (r ∷ rs) = judge h r ∷ verdicts (offer h r) rs
+abbrev pub verdicts : History → List Raw → List ℕ
+verdicts h rs = along offer judge h rs
 
 -- refusal 22: the result list is shorter than the entries; none is offered, and the list is unchanged
 abbrev pub tooShort : List Raw → List ℕ → Bool

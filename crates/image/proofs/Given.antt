@@ -7,7 +7,7 @@ use native.Mathlib.Omega.{arith}
 use borrow.Author.Tests.{leb-true, eqb-true}
 use Rattle.measures.specs.declared.Cents.{Cents}
 use Rattle.entries.specs.Kinds.{numberOf, kindOf, sameOf, namesOf}
-use Rattle.entries.specs.Ranges.{between, namedFits, bFits, limitsOf, inRangeOf, amountMost}
+use Rattle.entries.specs.Ranges.{namedFits, bFits, limitsOf, inRangeOf, amountMost}
 use Rattle.entries.specs.Entries.{entryOf, refundedOf, expiredOf, restatedOf}
 use Rattle.entries.specs.declared.raw.Raw.{Raw}
 use Rattle.entries.specs.declared.kinds.Kind.{Kind}
@@ -22,15 +22,10 @@ use Rattle.rules.specs.declared.changes.Found.{Found}
 use Rattle.rules.specs.declared.changes.Found.the-variants.{At, Nothing}
 use Rattle.rules.specs.declared.changes.Outcome.{Outcome}
 use Rattle.rules.specs.declared.changes.Outcome.the-variants.{Refused, Accepted}
-use Rattle.codec.proofs.Bytes.{both-true}
+use Rattle.entries.proofs.Ranges.{both-true, Ranged, ranged}
 use Rattle.image.specs.Raws.{rawWith, rawOf}
 
 -- ---- ranges
-
--- a number between two others
-inside : (n low high : ℕ) → between n low high ≡ true → (low ≤ n) × (n ≤ high)
-unfolding between
-inside n low high e = let p = both-true _ _ e in (leb-true low n (p .0), leb-true n high (p .1))
 
 -- the named pair is zero where nothing is named
 unnamed : (r : Raw) → namedFits r false ≡ true → (r .«named_node» ≡ 0) × (r .«named_serial» ≡ 0)
@@ -40,21 +35,6 @@ unnamed r e = let p = both-true _ _ e in (eqb-true _ 0 (p .0), eqb-true _ 0 (p .
 at-most : (r : Raw) (high : ℕ) → bFits r false high ≡ true → r .b ≤ high
 unfolding bFits
 at-most r high e = leb-true (r .b) high e
-
--- what an entry in range satisfies
-record Ranged (r : Raw) (k : Kind) : Type 0 where
-  amount : (limitsOf k (r .a) .«amount_low» ≤ r .amount) × (r .amount ≤ limitsOf k (r .a) .«amount_high»)
-  named : namedFits r (limitsOf k (r .a) .named) ≡ true
-  a : (limitsOf k (r .a) .«a_low» ≤ r .a) × (r .a ≤ limitsOf k (r .a) .«a_high»)
-  b : bFits r (limitsOf k (r .a) .phases) (limitsOf k (r .a) .«b_high») ≡ true
-
-ranged : (r : Raw) (k : Kind) → inRangeOf r k ≡ true → Ranged r k
-unfolding inRangeOf
-ranged r k e =
-    let p = both-true _ _ e in
-    let q = both-true _ _ (p .0) in
-    let s = both-true _ _ (p .1) in
-    record { amount = inside _ _ _ (q .0); named = q .1; a = inside _ _ _ (s .0); b = s .1 }
 
 -- ---- the raw entry again
 

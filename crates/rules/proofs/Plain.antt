@@ -1,8 +1,7 @@
 -- No product of an entry in range reaches the limit, so the code's formulas are document 01's.
 use Prim.Native.Nat.{ℕ, _-_, _*_, _≤_, min}
 use mathlib.Core.Path.{_≡_, refl, ap, _∙_}
-use mathlib.Core.Bool.{Bool, true, false, _&&_}
-use lib.Dec.{leb}
+use mathlib.Core.Bool.{true}
 use borrow.Author.Tests.{leb-true}
 use native.Mathlib.Nat.{mul-le-mul, min-eq-left}
 use native.Mathlib.Omega.{arith}
@@ -10,11 +9,11 @@ use Rattle.measures.specs.Cents.{cents, most}
 use Rattle.measures.specs.declared.Cents.{Cents}
 use Rattle.measures.specs.Rounding.{rounded}
 use Rattle.measures.proofs.Rounding.{rounds}
-use Rattle.entries.specs.Ranges.{amountMost, limitsOf, between, namedFits, bFits, inRangeOf}
+use Rattle.entries.specs.Ranges.{amountMost, limitsOf, bFits, inRangeOf}
 use Rattle.entries.specs.Entries.{metres}
 use Rattle.entries.specs.declared.raw.Raw.{Raw}
-use Rattle.entries.specs.declared.kinds.Kind.{Kind}
 use Rattle.entries.specs.declared.kinds.Kind.the-variants as kind
+use Rattle.entries.proofs.Ranges.{ranged}
 use Rattle.rules.specs.Formulas.{refund, billedOf, refundOf, interestOf, Plain, PlainEntries, RoundedNearest}
 
 -- a product of two numbers within bounds whose product fits
@@ -34,47 +33,26 @@ plain =
           rw (fits amountMost 2000 deposit rate hd hr (omega arith), fits (amountMost * 2000) 36524 (deposit * rate) days p ht (omega arith)) refl;
     }
 
-both-true : (p q : Bool) → (p && q) ≡ true → (p ≡ true) × (q ≡ true)
-both-true true q e = (refl, e)
-both-true false q e = let z : _≡_ {A = ℕ} 0 1 = cc in absurd (omega arith)
-
-between-high : (n low high : ℕ) → between n low high ≡ true → n ≤ high
-unfolding between
-between-high n low high e = leb-true n high (both-true (leb low n) (leb n high) e .1)
-
--- the upper ends of an entry's ranges
-in-range : (r : Raw) (k : Kind) → inRangeOf r k ≡ true →
-    let l = limitsOf k (r .a) in (r .amount ≤ l .«amount_high») × (r .a ≤ l .«a_high») × (bFits r (l .phases) (l .«b_high») ≡ true)
-unfolding inRangeOf
-in-range r k e =
-    let l = limitsOf k (r .a) in
-    let amount = between (r .amount) (l .«amount_low») (l .«amount_high») in
-    let a = between (r .a) (l .«a_low») (l .«a_high») in
-    let b = bFits r (l .phases) (l .«b_high») in
-    let s = both-true (amount && namedFits r (l .named)) (a && b) e in
-    let t = both-true a b (s .1) in
-    (between-high (r .amount) _ _ (both-true amount (namedFits r (l .named)) (s .0) .0), between-high (r .a) _ _ (t .0), t .1)
-
 served-fits : (r : Raw) → inRangeOf r kind.Bill ≡ true → r .b ≤ 255
 unfolding limitsOf bFits
 served-fits r e =
-    let s = in-range r kind.Bill e in
-    let b : r .b ≤ r .a = leb-true (r .b) (r .a) (s .2) in
-    let a : r .a ≤ 62 = s .1 in
+    let s = ranged r kind.Bill e in
+    let b : r .b ≤ r .a = leb-true (r .b) (r .a) (s .b) in
+    let a : r .a ≤ 62 = s .a .1 in
     omega arith
 
 pub plain-entries : PlainEntries
 unfolding limitsOf
 plain-entries =
     record {
-      bill = λ r e. plain .bill (r .amount) (r .b) (r .a) (in-range r kind.Bill e .0) (served-fits r e);
+      bill = λ r e. plain .bill (r .amount) (r .b) (r .a) (ranged r kind.Bill e .amount .1) (served-fits r e);
       added-customer = λ c r n ec er en.
-          let h = in-range c kind.Contribution ec .0 in
+          let h = ranged c kind.Contribution ec .amount .1 in
           let same = ap (λ (m : Cents). m .0) en in
-          plain .added-customer n (metres (r .a)) (omega arith) (in-range r kind.AddedCustomer er .1) ∙
+          plain .added-customer n (metres (r .a)) (omega arith) (ranged r kind.AddedCustomer er .a .1) ∙
           ap (λ (m : ℕ). cents (refund (n .held .0) m (r .a) (n .built .0) (n .added))) same;
       deposit-return = λ d r e h.
-          plain .deposit-return (d .amount) (d .a) (r .day - d .day) (in-range d kind.Deposit e .0) (in-range d kind.Deposit e .1) (omega arith);
+          plain .deposit-return (d .amount) (d .a) (r .day - d .day) (ranged d kind.Deposit e .amount .1) (ranged d kind.Deposit e .a .1) (omega arith);
     }
 
 pub rounded-nearest : RoundedNearest

@@ -7,7 +7,8 @@ use lib.ListN.{length, length-take}
 use lib.Dec.{eqb}
 use borrow.Author.Tests.{not-true, not-false, eq-eqb, ne-eqb}
 use Rattle.codec.specs.Headers.{fitsOf, marked, countIn, checkOf}
-use Rattle.codec.proofs.Headers.{fits-ends, refused-stays, rule-broken, rule-kept}
+use Rattle.entries.proofs.Rows.{refused-stays}
+use Rattle.codec.proofs.Headers.{fits-ends, rule-broken, rule-kept}
 use borrow.Author.Needs.{needs}
 use Rattle.codec.proofs.check.Statement.{statement}
 use Rattle.codec.proofs.check.Tie as tie
