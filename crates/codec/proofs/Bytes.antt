@@ -74,10 +74,6 @@ un-four l at =
 
 -- ---- sameness
 
-pub eqList-refl : (l : List ℕ) → eqList l l ≡ true
-eqList-refl [] = refl
-eqList-refl (x ∷ l) = rw (eq-eqb x x refl) (eqList-refl l)
-
 pub eqList-eq : (a b : List ℕ) → eqList a b ≡ true → a ≡ b
 eqList-eq [] [] h = refl
 eqList-eq [] (y ∷ b) h = let z : _≡_ {A = ℕ} 0 1 = cc in absurd (omega arith)

@@ -229,13 +229,6 @@ pub names-points : (c x : Raw) → naming (kindOf (c .kind)) ≡ true → points
 unfolding names
 names-points c x k p = rw (k, p)
 
--- the oldest entries have the lowest serials
-pub in-last : {h : History} → Valid h → (e : Raw) → In e h → e .serial ≤ lastSerial h (e .node)
-in-last (joins {r} {h} v j) e (newest q) =
-    let own : lastSerial (r ∷ h) (e .node) ≡ e .serial = subst (λ (x : Raw). lastSerial (r ∷ h) (x .node) ≡ x .serial) q (last-own h r) in
-    omega arith
-in-last (joins {r} {h} v j) e (older t) = omega (arith, in-last v e t, last-up h r (e .node) j)
-
 -- no entry of a history names one whose serial is newer than all of them
 pub in-names-old : {h : History} → Valid h → (c : Raw) → In c h → (r : Raw) → lastSerial h (r .node) < r .serial → names c r ≡ false
 in-names-old (joins {r = x} {h} v j) c (newest q) r n =
