@@ -1,6 +1,6 @@
 -- Laws of a posting: what an accepted one has passed, and what each outcome makes of the book.
 use Prim.Native.Nat.{ℕ, _+_, _<_}
-use mathlib.Core.List.{List}
+use mathlib.Core.List.{List, [], _∷_, _++_}
 use lib.ListN.{getD, set}
 use mathlib.Core.Path.{_≡_, refl}
 use native.Mathlib.Omega.{arith}
@@ -32,7 +32,7 @@ use Rattle.book.specs.Fresh.{entriesMost}
 use Rattle.book.specs.Refusals.{entryRows, checkEntryOf, decidedOf, outcomeOf}
 use Rattle.book.specs.Serials.{lastOf, afterOf}
 use Rattle.book.specs.Chain.{slotOf, startOf}
-use Rattle.book.specs.Posting.{accountAt, namedAt, lookupOf, rewritten, storedOf, bookAfter, decisionOf, postOf}
+use Rattle.book.specs.Posting.{accountAt, namedAt, lookupOf, rewritten, storedOf, bookAfter, decisionOf, postOf, postsOf}
 use Rattle.book.specs.declared.Book.{Book}
 use Rattle.book.specs.declared.Serials.{Serials}
 use Rattle.book.proofs.Chain.{Inside, find-inside}
@@ -96,3 +96,10 @@ pub post-accepted : (b : Book) (r : Raw) (x : Change) (o : Outcome) (a n : ℕ) 
 unfolding postOf bookAfter storedOf
 post-accepted b r x o a n acc new w es l ans decided accepted slot number numbered entry with entries after answered =
     rw (answered, after, entries, with, entry, numbered, number, slot, ← decided, accepted) refl
+
+-- ---- lists of postings
+
+pub posts-append : (b : Book) (rs ts : List Raw) → postsOf (postsOf b rs) ts ≡ postsOf b (rs ++ ts)
+unfolding postsOf
+posts-append b [] ts = refl
+posts-append b (r ∷ rs) ts = posts-append (postOf b r .book) rs ts

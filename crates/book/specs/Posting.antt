@@ -1,6 +1,6 @@
 -- A posting: the next book, and the answer in document 01's numbers.
 use Prim.Native.Nat.{ℕ, _+_}
-use mathlib.Core.List.{List}
+use mathlib.Core.List.{List, [], _∷_}
 use lib.ListN.{getD, set}
 use Rattle.entries.specs.Kinds.{kindOf}
 use Rattle.entries.specs.Entries.{entryOf, withOf}
@@ -75,3 +75,8 @@ postOf b r =
       book = bookAfter b r (namedAt b r) (decisionOf b r);
       reply = replyOf (answerOf (decisionOf b r) (b .count + 1));
     }
+
+-- the book after each entry of a list is posted in turn, refused ones included
+unfoldable pub postsOf : Book → List Raw → Book
+postsOf b [] = b
+postsOf b (r ∷ rs) = postsOf (postOf b r .book) rs

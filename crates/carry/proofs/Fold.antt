@@ -17,12 +17,12 @@ use denote.Struct.Laws as LL
 use Rattle.entries.specs.declared.raw.Raw.{Raw}
 use Rattle.entries.specs.declared.refusals.Refusal.the-variants.{ResultsShort}
 use Rattle.book.specs.declared.Book.{Book}
-use Rattle.book.specs.Posting.{postOf}
+use Rattle.book.specs.Posting.{postOf, postsOf}
 use Rattle.book.proofs.Book as B
 use Rattle.book.proofs.Book.Laws as B′
 use Rattle.carry.specs.declared.Carried.{Carried}
 use Rattle.carry.specs.declared.CarryAnswer.the-variants.{Refused, Accepted}
-use Rattle.carry.specs.Carry.{CarryResult, postsOf, refusalsOf, shortOf, carryNumberOf, carryRefusalOf, carryBookOf, carryResultsOf, carriedOf, carryOf}
+use Rattle.carry.specs.Carry.{CarryResult, refusalsOf, shortOf, carryNumberOf, carryRefusalOf, carryBookOf, carryResultsOf, carriedOf, carryOf}
 
 -- the book's machine value
 abbrev pub lowB : Book → Val

@@ -7,17 +7,13 @@ use lib.Dec.{ltb}
 use Rattle.entries.specs.Refusals.{refusalNumber}
 use Rattle.entries.specs.declared.raw.Raw.{Raw}
 use Rattle.entries.specs.declared.refusals.Refusal.the-variants as no
-use Rattle.book.specs.Posting.{postOf}
+use Rattle.book.specs.Posting.{postOf, postsOf}
 use Rattle.book.specs.declared.Book.{Book}
 use Rattle.carry.specs.declared.Carried.{Carried}
 use Rattle.carry.specs.declared.CarryAnswer.{CarryAnswer}
 use Rattle.carry.specs.declared.CarryAnswer.the-variants.{Refused, Accepted}
 
--- the book after each entry is posted in turn, and their refusal numbers
-unfoldable pub postsOf : Book → List Raw → Book
-postsOf b [] = b
-postsOf b (r ∷ rs) = postsOf (postOf b r .book) rs
-
+-- the refusal number of each entry, or 0, where each is posted in turn
 unfoldable pub refusalsOf : Book → List Raw → List ℕ
 refusalsOf b [] = []
 refusalsOf b (r ∷ rs) = postOf b r .reply .refusal ∷ refusalsOf (postOf b r .book) rs

@@ -9,9 +9,9 @@ use lib.Seq.{drop-drop, take-all, take-suc-set, drop-set-lt}
 use Rattle.entries.specs.declared.raw.Raw.{Raw}
 use Rattle.codec.specs.Records.{decodeRecord, recordIn, decodeAll}
 use Rattle.codec.proofs.Records.{length-decodeAll}
-use Rattle.book.specs.Posting.{postOf}
+use Rattle.book.specs.Posting.{postOf, postsOf}
 use Rattle.book.specs.declared.Book.{Book}
-use Rattle.carry.specs.Carry.{postsOf, refusalsOf}
+use Rattle.carry.specs.Carry.{refusalsOf}
 use Rattle.image.specs.Rounds.{rawIn}
 use Rattle.contribution_book.specs.Carries.{runOf, putAll}
 

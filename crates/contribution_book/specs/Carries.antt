@@ -8,8 +8,9 @@ use Rattle.entries.specs.Refusals.{refusalNumber}
 use Rattle.entries.specs.declared.refusals.Refusal.the-variants as no
 use Rattle.entries.specs.declared.raw.Raw.{Raw}
 use Rattle.codec.specs.Records.{recordBytes, decodeAll}
+use Rattle.book.specs.Posting.{postsOf}
 use Rattle.book.specs.declared.Book.{Book}
-use Rattle.carry.specs.Carry.{postsOf, carryRefusalOf, carryResultsOf}
+use Rattle.carry.specs.Carry.{carryRefusalOf, carryResultsOf}
 use Rattle.image.specs.Saves.{bytesOf, saveOf, savedIn}
 use Rattle.image.specs.Loads.{LoadReply}
 use Rattle.image.specs.Rounds.{rawIn}

@@ -15,7 +15,7 @@ ghost use mathlib.Core.Path.{_≡_};
 ghost use lib.ListN.{set};
 ghost use lib.Dec.{ltb};
 ghost use Rattle.entries.specs.Refusals.{refusalNumber};
-ghost use Rattle.carry.specs.Carry.{postsOf, refusalsOf};
+ghost use Rattle.carry.specs.Carry.{refusalsOf};
 ghost use Rattle.image.specs.Saves.{bytesOf};
 ghost use Rattle.image.specs.Loads.{loadOf};
 ghost use Rattle.contribution_book.specs.Carries.{runOf, putAll, nextOf, refusedCarry, carryInto, carryImage};

@@ -5,11 +5,11 @@ use mathlib.Core.Bool.{Bool, true, false, cond}
 use mathlib.Core.List.{List, [], _∷_}
 use Rattle.entries.specs.declared.raw.Raw.{Raw}
 use Rattle.rules.specs.declared.answers.Reply.{Reply}
-use Rattle.book.specs.Posting.{postOf}
+use Rattle.book.specs.Posting.{postOf, postsOf}
 use Rattle.book.specs.declared.Book.{Book}
 use Rattle.history.specs.History.{History, Amounts, judge, offer, offers, repliedBy, repliedOf, verdicts, tooShort}
 use Rattle.history.specs.Agreement.{Kept}
-use Rattle.carry.specs.Carry.{postsOf, refusalsOf, carryRefusalOf, carryBookOf, carryResultsOf}
+use Rattle.carry.specs.Carry.{refusalsOf, carryRefusalOf, carryBookOf, carryResultsOf}
 use Rattle.history.specs.Carry.{CarryAgreement}
 use Rattle.history.proofs.Agree.{agreement}
 

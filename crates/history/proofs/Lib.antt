@@ -12,4 +12,5 @@ pub mod Lawful
 pub mod Carry
 pub mod Queries
 pub mod Claim
+pub mod Hosts
 pub mod Trips

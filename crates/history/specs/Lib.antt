@@ -5,4 +5,5 @@ pub mod Carry
 pub mod Queries
 pub mod Calls
 pub mod Claim
+pub mod Hosts
 pub mod Trips

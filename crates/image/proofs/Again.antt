@@ -37,6 +37,17 @@ done b l n e = by (ltb (length l) (bytesOf b)) refl e
         let s : n ≡ bytesOf b = ap (λ (q : SaveReply). q .bytes) h in
         record { size = s; room = omega (arith, ltb-false (length l) (bytesOf b) p); kept = rw (p, s) }
 
+-- where it was accepted, the buffer begins with the image
+pub save-front : (b : Book) (l : List ℕ) → length (b .entries) ≡ entriesMost → saveOf b l .refusal ≡ 0 →
+    take (bytesOf b) (savedIn b l) ≡ imageOf b
+unfolding saveOf savedIn
+save-front b l full e = by (ltb (length l) (bytesOf b)) e
+  where
+    by : (t : Bool) → cond t (refusedSave (refusalNumber no.BufferShort)) (acceptedSave (bytesOf b)) .refusal ≡ 0 →
+        take (bytesOf b) (cond t l (imageOf b ++ drop (bytesOf b) l)) ≡ imageOf b
+    by true h = absurd (omega arith)
+    by false h = take-at (imageOf b) (drop (bytesOf b) l) (bytesOf b) (length-image b full)
+
 -- and one that was refused
 pub record Short (b : Book) (l : List ℕ) (k : ℕ) : Type 0 where
   pub number : k ≡ refusalNumber no.BufferShort

@@ -1,5 +1,5 @@
 -- The two round trips.
-use Prim.Native.Nat.{ℕ, zero, suc, _+_, _*_}
+use Prim.Native.Nat.{ℕ, zero, suc, _+_, _*_, _≤_}
 use mathlib.Core.Path.{_≡_, refl, sym, ap, _∙_}
 use mathlib.Core.Bool.{Bool, true, false, cond}
 use mathlib.Core.List.{List, [], _∷_, _++_, map, append-nil, append-assoc}
@@ -19,20 +19,21 @@ use Rattle.rules.specs.Accounts.{noAccount}
 use Rattle.rules.specs.declared.changes.Outcome.{Outcome}
 use Rattle.rules.specs.declared.changes.Outcome.the-variants.{Refused, Accepted}
 use Rattle.codec.specs.Bytes.{Bytes}
-use Rattle.codec.specs.Records.{InRange, AllInRange, encodeAll, decodeAll}
+use Rattle.codec.specs.Records.{layout, InRange, AllInRange, encodeAll, decodeRecord, decodeAll}
 use Rattle.codec.specs.Headers.{headerOf, countIn, checkOf}
 use Rattle.codec.specs.declared.Record.{Record}
 use Rattle.codec.proofs.Bytes.{bytes-drop}
+use Rattle.codec.proofs.Layouts.{fit-unpack}
 use Rattle.codec.proofs.Records.{length-decodeAll, decode-encode-all, encode-decode-all, in-range-append}
 use Rattle.codec.proofs.Headers.{length-header, count-header, header-passes, checked, header-again}
 use Rattle.book.specs.Fresh.{accountsMost, entriesMost, freshBook}
-use Rattle.book.specs.Posting.{accountAt, decisionOf, postOf}
+use Rattle.book.specs.Posting.{accountAt, decisionOf, postOf, postsOf}
 use Rattle.book.specs.declared.Book.{Book}
 use Rattle.book.specs.Chain.{slotOf}
-use Rattle.book.proofs.Posting.{post-refused}
+use Rattle.book.proofs.Posting.{post-refused, posts-append}
 use Rattle.image.specs.Saves.{sizeOf, recordsOf, imageOf}
 use Rattle.image.specs.Loads.{LoadReply, wholeOf, failedOf, stopOf, loadAll, recordsIn, begunOf, loadOf}
-use Rattle.image.specs.Rounds.{postedAll, Typed, AllTyped, rawIn, RoundTrips}
+use Rattle.image.specs.Rounds.{Typed, AllTyped, rawIn, RoundTrips}
 use Rattle.image.proofs.Saving.{length-image, length-records}
 use Rattle.image.proofs.Loading.{refusal-above, load-begins}
 use Rattle.image.proofs.Step.{Good, accepted, post-step}
@@ -122,16 +123,18 @@ replays-step b r p e =
       again = rw (step .records) (load-more (recordsOf b (b .count)) (record { raw = r; next = accountAt b (r .account) .newest }) freshBook b 1 (p .again) (none-stops b r e));
     }
 
-replays-all : (rs : List Raw) (b : Book) → Replays b → Replays (postedAll b rs)
+replays-all : (rs : List Raw) (b : Book) → Replays b → Replays (postsOf b rs)
+unfolding postsOf
 replays-all [] b p = p
 replays-all (r ∷ rs) b p = replays-all rs (postOf b r .book) (posting Replays b r p (replays-step b r p))
 
-pub replays : (rs : List Raw) → Replays (postedAll freshBook rs)
+pub replays : (rs : List Raw) → Replays (postsOf freshBook rs)
 replays rs = replays-all rs freshBook replays-fresh
 
 -- every entry of a book that is in range fits its record
 in-range-all : (rs : List Raw) (b : Book) → AllTyped rs → Good b → AllInRange (recordsOf b (b .count)) →
-    AllInRange (recordsOf (postedAll b rs) (postedAll b rs .count))
+    AllInRange (recordsOf (postsOf b rs) (postsOf b rs .count))
+unfolding postsOf
 in-range-all [] b t g h = h
 in-range-all (r ∷ rs) b t g h =
     let both = posting (λ q. Good q × AllInRange (recordsOf q (q .count))) b r (g, h) (λ e.
@@ -160,7 +163,7 @@ image-loads b full h =
     load-begins (headerOf n ++ rest) (header-passes n rest (omega arith) len) ∙
     ap (λ (q : List Record). loadAll q freshBook 1) (rw (count, body) all)
 
-pub saved-loads : (rs : List Raw) (b : Book) → b ≡ postedAll freshBook rs → AllInRange (recordsOf b (sizeOf b)) → loadOf (imageOf b) ≡ wholeOf b
+pub saved-loads : (rs : List Raw) (b : Book) → b ≡ postsOf freshBook rs → AllInRange (recordsOf b (sizeOf b)) → loadOf (imageOf b) ≡ wholeOf b
 saved-loads rs b e h =
     let p : Replays b = rw e (replays rs) in
     image-loads b (p .good .full) h ∙ rw (size-count b (p .good)) (p .again)
@@ -171,10 +174,10 @@ saved-loads rs b e h =
 record Extends (b after : Book) (rs : List Record) : Type 0 where
   good : Good after
   records : recordsOf after (after .count) ≡ recordsOf b (b .count) ++ rs
-  posted : after ≡ postedAll b (map rawIn rs)
+  posted : after ≡ postsOf b (map rawIn rs)
 
 extend : (rs : List Record) (b : Book) (i : ℕ) → Good b → loadAll rs b i .refusal ≡ 0 → Extends b (loadAll rs b i .book) rs
-unfolding loadAll
+unfolding loadAll postsOf
 extend [] b i g e = record { good = g; records = sym (append-nil (recordsOf b (b .count))); posted = refl }
 extend (r ∷ rs) b i g e = by (eqb (stopOf b r) 0) refl (extend rs (postOf b (r .raw) .book) (i + 1)) e
   where
@@ -237,12 +240,41 @@ fresh-in-range : AllInRange (recordsOf freshBook (freshBook .count))
 unfolding freshBook
 fresh-in-range = tt
 
+posted-loads : (rs : List Raw) → AllTyped rs → loadOf (imageOf (postsOf freshBook rs)) ≡ wholeOf (postsOf freshBook rs)
+posted-loads rs t =
+    let b = postsOf freshBook rs in
+    saved-loads rs b refl (rw (size-count b (replays rs .good)) (in-range-all rs freshBook t good-fresh fresh-in-range))
+
+-- ---- a book that was loaded and then posted to
+
+typed-append : (rs ts : List Raw) → AllTyped rs → AllTyped ts → AllTyped (rs ++ ts)
+typed-append [] ts p q = q
+typed-append (r ∷ rs) ts p q = (p .0, typed-append rs ts (p .1) q)
+
+raw-typed : (r : Record) → InRange r → Typed (rawIn r)
+raw-typed r f = omega arith
+
+-- the records that bytes hold fit their fields
+pub decoded-typed : (n : ℕ) (l : List ℕ) → 24 * n ≤ length l → Bytes l → AllTyped (map rawIn (decodeAll n l))
+unfolding decodeRecord
+decoded-typed zero l k h = tt
+decoded-typed (suc n) l k h =
+    (raw-typed (decodeRecord l) (fit-unpack layout l (omega arith) h), decoded-typed n (drop 24 l) (simp length-drop (omega arith)) (bytes-drop 24 l h))
+
+pub loaded-posts : (l : List ℕ) → loadOf l .refusal ≡ 0 → (rs : List Raw) →
+    postsOf (loadOf l .book) rs ≡ postsOf freshBook (map rawIn (recordsIn l) ++ rs)
+loaded-posts l e rs =
+    ap (λ (b : Book). postsOf b rs) (loaded l e .posted) ∙ posts-append freshBook (map rawIn (recordsIn l)) rs
+
 pub trips : RoundTrips
 trips =
     record {
-      saved-loads = λ rs t.
-          let b = postedAll freshBook rs in
-          saved-loads rs b refl (rw (size-count b (replays rs .good)) (in-range-all rs freshBook t good-fresh fresh-in-range));
+      saved-loads = posted-loads;
       loaded-saves = loaded-saves;
       loaded-posted = λ l e. loaded l e .posted;
+      loaded-on = λ l h e rs t.
+          let c = checked l (load-checked l e) in
+          let records = map rawIn (recordsIn l) in
+          let typed = decoded-typed (countIn l) (drop 24 l) (simp length-drop (omega (arith, c .sized))) (bytes-drop 24 l h) in
+          rw (loaded-posts l e rs) (posted-loads (records ++ rs) (typed-append records rs typed t));
     }

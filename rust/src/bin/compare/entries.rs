@@ -121,11 +121,14 @@ fn earlier(random: &mut Random, history: &History, kind: u8, account: u16) -> Op
     let any = random.one_in(16);
     let fits = |raw: &&Raw| any || raw.account == account && kinds.contains(&raw.kind);
     let fitting: Vec<&Raw> = history.entries().iter().filter(fits).collect();
-    match kind {
-        DEPOSIT_RETURN => fitting.last().copied().copied(),
-        _ if fitting.is_empty() => None,
-        _ => Some(*random.pick(&fitting)),
-    }
+    let newest = fitting.len().checked_sub(1)?;
+    let place = match kind {
+        DEPOSIT_RETURN => newest,
+        // Often the same, so that one contribution gets many customers.
+        _ if random.one_in(2) => 0,
+        _ => random.below(fitting.len()),
+    };
+    Some(*fitting[place])
 }
 
 fn any_day(random: &mut Random) -> u16 {

@@ -4,8 +4,8 @@ use Prim.Native.Nat.{_+_, _-_, _/_, _≤_}
 use native.Mathlib.Omega.{arith}
 use denote.Ref.{now}
 use lib.ListN.{length, length-set}
-use Rattle.book.specs.Posting.{postOf}
-use Rattle.carry.specs.Carry.{postsOf, refusalsOf}
+use Rattle.book.specs.Posting.{postOf, postsOf}
+use Rattle.carry.specs.Carry.{refusalsOf}
 use Rattle.contribution_book.specs.Carries.{runOf, nextOf, putAll}
 use Rattle.contribution_book.proofs.Runs.{entryAt, entry-part, restOf, rest-start, rest-end, posts-step, results-step}
 use Rattle.contribution_book.proofs.carries.posts.Statement.{statement}

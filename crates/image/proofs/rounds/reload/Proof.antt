@@ -1,10 +1,9 @@
-use mathlib.Core.Path.{refl, sym, ap, _∙_}
+use mathlib.Core.Path.{sym, ap, _∙_}
 use native.Mathlib.Omega.{arith}
 use denote.Ref.{now}
 use lib.ListN.{length-map, length-take}
 use Rattle.entries.specs.Refusals.{refusalNumber}
 use Rattle.image.specs.Saves.{sizeOf, savedReply}
-use Rattle.image.specs.Loads.{loadedReply}
 use Rattle.image.proofs.Loading.{refusal-above}
 use Rattle.image.proofs.Ranges.{ranges}
 use Rattle.image.proofs.Again.{Done, done, reload-done, reload-refused}
