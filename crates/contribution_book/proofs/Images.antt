@@ -14,7 +14,7 @@ use Rattle.book.specs.declared.Book.{Book}
 use Rattle.book.specs.Posting.{postOf}
 use Rattle.carry.specs.Carry.{refusalsOf, carryRefusalOf, carryResultsOf}
 use Rattle.image.specs.Saves.{SaveReply, refusedSave, acceptedSave, bytesOf, saveOf, savedIn}
-use Rattle.image.proofs.Loading.{refusal-above}
+use Rattle.entries.proofs.Numbers.{refusal-above, is-refusal}
 use Rattle.image.proofs.Again.{done, short}
 use Rattle.queries.specs.Statement.{statementReplyOf}
 use Rattle.queries.specs.Contribution.{contributionReplyOf}
@@ -25,10 +25,6 @@ use Rattle.contribution_book.specs.Order.{firstRefusal}
 use Rattle.contribution_book.specs.Posts.{postGiven, refusedPost, entryIn, entryRefusal, postRefusal, postInto, postImage}
 use Rattle.contribution_book.specs.Carries.{acceptedCarry, refusedCarry, runOf, nextOf, runRefusal, carryRefusal, carryInto, carryImage, putAll}
 use Rattle.contribution_book.proofs.Runs.{length-run, results-put}
-
--- a refusal's number is not 0
-pub is-refusal : (n : Refusal) → eqb (refusalNumber n) 0 ≡ false
-is-refusal n = ne-eqb (refusalNumber n) 0 (λ z. omega (arith, refusal-above n))
 
 -- no image is longer than the longest
 pub image-most : (b : Book) → bytesOf b ≤ 24600

@@ -41,7 +41,7 @@ use Rattle.book.specs.Posting.{accountAt, lookupOf, namedAt, rewritten, storedO
 use Rattle.book.specs.declared.Book.{Book}
 use Rattle.book.specs.declared.Serials.{Serials}
 use Rattle.queries.specs.Chain.{chainAt}
-use Rattle.image.proofs.Loading.{refusal-above, checkNumber}
+use Rattle.entries.proofs.Numbers.{refusal-above, checkNumber}
 use Rattle.history.specs.History.{History, accounts, entries, lastSerial, naming, Sought, missing, found, find, named, posted, refundOf, change, fate, entryIn, fateIn, Balance, Move, stays, charges, credits, refunds, deposits, returns, retains, moved, moveBy, balance, Amounts, answered, amounts, judge, joined, offer, repliedBy, repliedOf, toArrears, refundsPaid}
 use Rattle.history.specs.Laws.{Valid, empty, joins}
 use Rattle.history.specs.Agreement.{newestOf, keptAccount, keptData, dataIn, keptEntry, keptChain, Rows, start, more, Agrees, Kept, Agreement}

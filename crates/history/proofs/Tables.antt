@@ -26,7 +26,7 @@ use Rattle.entries.proofs.Rows.{refused-stays}
 use Rattle.rules.specs.Checks.{depositClash, stateRows, checkStateOf, refundPeriod}
 use Rattle.rules.specs.declared.accounts.Account.{Account}
 use Rattle.book.specs.Refusals.{entryRows, checkEntryOf}
-use Rattle.image.proofs.Loading.{checkNumber}
+use Rattle.entries.proofs.Numbers.{checkNumber}
 use Rattle.history.specs.History.{History, naming, suits, period, lastSerial, Fate, Balance, Row, firstOf, refusals}
 use Rattle.history.specs.Agreement.{keptAccount}
 use Rattle.history.proofs.Accept.{is-contribution}

@@ -11,8 +11,8 @@ use borrow.Author.Tests.{eq-eqb, ne-eqb}
 use Rattle.entries.specs.Refusals.{refusalNumber, ruleOf}
 use Rattle.entries.specs.declared.refusals.Refusal.{Refusal}
 use Rattle.entries.specs.declared.refusals.Refusal.the-variants as no
-use Rattle.entries.specs.declared.refusals.Check.{Check}
 use Rattle.entries.specs.declared.refusals.Check.the-variants as check
+use Rattle.entries.proofs.Numbers.{checkNumber, is-refusal}
 use Rattle.rules.specs.Answers.{replyOf}
 use Rattle.rules.specs.declared.answers.Answer.{Answer}
 use Rattle.rules.specs.declared.answers.Answer.the-variants as answer
@@ -24,43 +24,13 @@ use Rattle.book.specs.Posting.{accountAt, postOf}
 use Rattle.book.specs.declared.Book.{Book}
 use Rattle.image.specs.Loads.{LoadReply, wholeOf, failedOf, verdictOf, stopOf, loadAll, recordsIn, begunOf, loadOf}
 
--- 0 means accepted
-pub refusal-above : (n : Refusal) → 0 < refusalNumber n
-refusal-above no.UnknownKind = omega arith
-refusal-above no.UnknownNode = omega arith
-refusal-above no.UnknownAccount = omega arith
-refusal-above no.UnknownDay = omega arith
-refusal-above no.FieldOutOfRange = omega arith
-refusal-above no.SerialNotNew = omega arith
-refusal-above no.BookFull = omega arith
-refusal-above no.NotOnChain = omega arith
-refusal-above no.DepositState = omega arith
-refusal-above no.DayBefore = omega arith
-refusal-above no.Closed = omega arith
-refusal-above no.PeriodOver = omega arith
-refusal-above no.PeriodRunning = omega arith
-refusal-above no.OnePhase = omega arith
-refusal-above no.MetresExceeded = omega arith
-refusal-above no.CorrectedBefore = omega arith
-refusal-above no.ImageLength = omega arith
-refusal-above no.ImageHeader = omega arith
-refusal-above no.ImageCount = omega arith
-refusal-above no.NextIndex = omega arith
-refusal-above no.BufferShort = omega arith
-refusal-above no.ResultsShort = omega arith
-
-unfoldable pub checkNumber : Check → ℕ
-checkNumber check.Passed = 0
-checkNumber (check.Refused n) = refusalNumber n
-
 -- what a posting's answer and the next index decide is the record's refusal
 pub verdict-stop : (a : Answer) (b : Book) (r : Record) → replyOf a ≡ postOf b (r .raw) .reply →
     checkNumber (verdictOf a (r .next) (accountAt b (r .raw .account) .newest)) ≡ stopOf b r
 unfolding verdictOf stopOf replyOf ruleOf checkNumber
 verdict-stop (answer.Refused n) b r e =
     let posted : postOf b (r .raw) .reply .refusal ≡ refusalNumber n = sym (ap (λ x. x .refusal) e) in
-    let other : eqb (refusalNumber n) 0 ≡ false = ne-eqb (refusalNumber n) 0 (λ z. omega (arith, refusal-above n)) in
-    rw (posted, other)
+    rw (posted, is-refusal n)
 verdict-stop (answer.Accepted number amounts) b r e =
     let posted : postOf b (r .raw) .reply .refusal ≡ 0 = sym (ap (λ x. x .refusal) e) in
     rw posted (by (eqb (r .next) (accountAt b (r .raw .account) .newest)))

@@ -41,7 +41,7 @@ use Rattle.book.proofs.Posting.{decided-passed, post-refused}
 use Rattle.image.specs.Raws.{rawWith, rawOf}
 use Rattle.image.specs.Saves.{recordOf, recordsOf}
 use Rattle.image.proofs.Given.{known, raw-again, Rewrites, rewrites}
-use Rattle.image.proofs.Loading.{refusal-above}
+use Rattle.entries.proofs.Numbers.{refusal-above}
 
 -- ---- what an accepted entry has passed
 

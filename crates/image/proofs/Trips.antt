@@ -35,7 +35,8 @@ use Rattle.image.specs.Saves.{sizeOf, recordsOf, imageOf}
 use Rattle.image.specs.Loads.{LoadReply, wholeOf, failedOf, stopOf, loadAll, recordsIn, begunOf, loadOf}
 use Rattle.image.specs.Rounds.{Typed, AllTyped, rawIn, RoundTrips}
 use Rattle.image.proofs.Saving.{length-image, length-records}
-use Rattle.image.proofs.Loading.{refusal-above, load-begins}
+use Rattle.entries.proofs.Numbers.{refusal-above}
+use Rattle.image.proofs.Loading.{load-begins}
 use Rattle.image.proofs.Step.{Good, accepted, post-step}
 
 -- ---- the fresh book

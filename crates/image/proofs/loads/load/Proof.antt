@@ -5,6 +5,7 @@ use native.Mathlib.Omega.{arith}
 use denote.Ref.{now}
 use Rattle.entries.specs.Refusals.{refusalNumber}
 use Rattle.entries.specs.declared.refusals.Check.the-variants as check
+use Rattle.entries.proofs.Numbers.{refusal-above, checkNumber}
 use Rattle.codec.specs.Records.{recordIn}
 use Rattle.codec.specs.Headers.{checkOf}
 use Rattle.book.specs.Posting.{postOf}
@@ -12,7 +13,7 @@ use Rattle.book.proofs.Chain.{slot-inside}
 use lib.ListN.{getD}
 use Rattle.rules.specs.Accounts.{noAccount}
 use Rattle.image.specs.Loads.{loadedReply, verdictOf, stopOf, loadOf}
-use Rattle.image.proofs.Loading.{refusal-above, checkNumber, verdict-stop, restOf, rest-step, rest-stop, rest-end, load-refused, load-starts}
+use Rattle.image.proofs.Loading.{verdict-stop, restOf, rest-step, rest-stop, rest-end, load-refused, load-starts}
 use Rattle.image.proofs.loads.load.Statement.{statement}
 use Rattle.image.proofs.loads.load.Tie as tie
 

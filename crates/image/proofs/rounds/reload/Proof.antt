@@ -4,7 +4,7 @@ use denote.Ref.{now}
 use lib.ListN.{length-map, length-take}
 use Rattle.entries.specs.Refusals.{refusalNumber}
 use Rattle.image.specs.Saves.{sizeOf, savedReply}
-use Rattle.image.proofs.Loading.{refusal-above}
+use Rattle.entries.proofs.Numbers.{refusal-above}
 use Rattle.image.proofs.Ranges.{ranges}
 use Rattle.image.proofs.Again.{Done, done, reload-done, reload-refused}
 use borrow.Author.Needs.{needs}

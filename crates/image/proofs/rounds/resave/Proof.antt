@@ -5,7 +5,7 @@ use Rattle.entries.specs.Refusals.{refusalNumber}
 use Rattle.codec.proofs.Bytes.{bytes-of}
 use Rattle.image.specs.Saves.{savedReply}
 use Rattle.image.specs.Loads.{answeredOf, loadedReply}
-use Rattle.image.proofs.Loading.{refusal-above}
+use Rattle.entries.proofs.Numbers.{refusal-above}
 use Rattle.image.proofs.Again.{resave-done, resave-refused}
 use borrow.Author.Needs.{needs}
 use Rattle.image.proofs.rounds.resave.Statement.{statement}
