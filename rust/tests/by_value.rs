@@ -3,9 +3,6 @@
 use contribution_book::{by_value, plain, plain::*, samples};
 use std::collections::BTreeSet;
 
-/// Bytes of a full book's image.
-const FULL: usize = 24_600;
-
 /// A sequence of numbers that look random, the same for each seed.
 struct Numbers(u64);
 
@@ -47,8 +44,8 @@ fn posted(entries: &[Raw]) -> (plain::Book, by_value::Book) {
 
 /// Saves both books and compares their images.
 fn saved(plain: &plain::Book, by_value: by_value::Book) -> Vec<u8> {
-    let mut image = [0xEE; FULL];
-    let mut same = [0xEE; FULL];
+    let mut image = [0xEE; LONGEST];
+    let mut same = [0xEE; LONGEST];
     let (refusal, length) = plain.save(&mut image);
     let (_, same_refusal, same_length) = by_value.save(&mut same);
     assert_eq!((refusal, length), (same_refusal, same_length));

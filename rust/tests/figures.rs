@@ -3,9 +3,6 @@
 
 use contribution_book::plain::*;
 
-/// Bytes of a full book's image.
-const FULL: usize = 24_600;
-
 /// An entry of node 1 and account 5 on day 0; a test sets the other fields.
 fn entry(kind: u8, serial: u32) -> Raw {
     Raw {
@@ -486,13 +483,13 @@ fn refusals_9_and_10_of_deposits() {
 fn refusal_17_image_length() {
     load_refused(&[], 17, 0);
     let full = image(&payments(1_024));
-    assert_eq!(full.len(), FULL);
+    assert_eq!(full.len(), 24_600);
     load_refused(&full[..23], 17, 0);
     load_refused(&full[..25], 17, 0);
-    load_refused(&full[..FULL - 1], 17, 0);
+    load_refused(&full[..LONGEST - 1], 17, 0);
     let mut longer = full.clone();
-    longer.resize(FULL + 24, 0);
-    load_refused(&longer[..FULL + 1], 17, 0);
+    longer.resize(LONGEST + 24, 0);
+    load_refused(&longer[..LONGEST + 1], 17, 0);
     load_refused(&longer, 17, 0);
 
     let (loaded, refusal, record) = Book::load(&full);
