@@ -1,7 +1,7 @@
 //! The plain book passed by value: each call takes the book and gives the
 //! next one beside its answer.
 //!
-//! No call is inlined: else the compiler would pass no book.
+//! No call is inlined: an inlined one passes no book.
 
 use crate::plain::{self, ContributionReply, Raw, Reply, StatementReply, RECORD};
 
