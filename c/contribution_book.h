@@ -9,11 +9,14 @@
  *   record   where the image is refused, the number of its record at fault, from 1; 0 where no record is at fault, and 0
  *            where the image is accepted, whether or not the call then is
  * A refused call has zeros in every other member, and writes nothing. An accepted one writes its result at the start of
- * each buffer and no byte past it.
+ * each buffer that it leaves something in, and no byte past it.
  *
  * Each buffer is a pointer and its length in bytes. The pointer is not null, also where the length is 0. The buffers that a
  * call writes must not overlap one another or those that it reads. No call keeps a pointer, allocates, or uses memory that
  * another call uses, so that calls on separate buffers may run at once. A call uses up to 1 MiB of stack.
+ *
+ * A record is 24 bytes, its numbers little-endian: kind at byte 0, node at 1, account at 2, day at 4, next index at 6,
+ * serial at 8, amount at 12, named serial at 16, a at 20, b at 22, named node at 23.
  *
  * The archive is for x86-64 Linux.
  */
@@ -63,11 +66,11 @@ struct contribution_book_posted {
 
 /*
  * Posts one entry.
- * Takes    the image, and the entry as a record of 24 bytes, whose next index (its bytes 6 and 7) is not read.
+ * Takes    the image, and the entry as a record, whose next index is not read.
  * Gives    the entry's number, the four amounts of its answer, and the length of the next image.
  * Refuses  the image; then the entry by 17 where it hasn't 24 bytes, and by 1 to 16; then by 21 an output that is shorter
  *          than the next image.
- * Leaves   the next image at the start of the output.
+ * Leaves   the next image at the start of the output, which must not overlap the image or the entry.
  */
 struct contribution_book_posted contribution_book_post(const uint8_t *image, size_t image_length, const uint8_t *entry,
                                                        size_t entry_length, uint8_t *output, size_t output_length);
@@ -80,14 +83,16 @@ struct contribution_book_carried {
 
 /*
  * Carries over the other node's entries: posts each in turn.
- * Takes    the image, and a run of entries, each as a record of 24 bytes whose next index is not read.
+ * Takes    the image, and a run of entries, each as a record, whose next index is not read.
  * Gives    the length of the next image.
  * Refuses  the image; then the run by 17 where its length is no multiple of 24; then by 22 a result list that is shorter
  *          than the entries; then by 21 an output that is shorter than the next image. An entry that is refused doesn't
  *          refuse the call.
  * Leaves   each entry's refusal number, or 0, at its place in the result list, and the next image at the start of the
- *          output. An output of CONTRIBUTION_BOOK_LONGEST bytes always has room, and one that has room for the image with
- *          all the entries is the fastest: else each entry is posted twice, to learn first whether the image fits.
+ *          output. The two must not overlap each other, the image or the run.
+ *
+ * An output of CONTRIBUTION_BOOK_LONGEST bytes always has room. With a shorter one each entry is posted twice, the first
+ * time only to learn whether the next image fits.
  */
 struct contribution_book_carried contribution_book_carry_over(const uint8_t *image, size_t image_length,
                                                               const uint8_t *run, size_t run_length, uint8_t *results,

@@ -17,7 +17,7 @@ static void put(uint8_t *at, size_t width, uint32_t value) {
     }
 }
 
-/* Writes the record of a contribution or a payment of account 5, whose day is 10. The other fields of its kind are a and b. */
+/* Writes the record of an entry of account 5 and day 10 that names no other. */
 static void put_entry(uint8_t *at, uint8_t kind, uint8_t node, uint32_t serial, uint32_t amount, uint16_t a, uint8_t b) {
     memset(at, 0, CONTRIBUTION_BOOK_RECORD);
     at[0] = kind;

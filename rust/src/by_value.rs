@@ -1,30 +1,14 @@
 //! The plain book passed by value: each call takes the book and gives the
 //! next one beside its answer.
 //!
-//! No call is inlined, so that the book really is passed.
+//! No call is inlined: an inlined one passes no book.
 
 use crate::plain::{self, ContributionReply, Raw, Reply, StatementReply, RECORD};
-
-/// Bytes of the proved book.
-pub const PROVED_BYTES: usize = 87_056;
-
-/// Unused bytes beside the plain book, so that this book's size is the proved
-/// book's modulo 4,096. The plain book's own size is 16 modulo 4,096, and a copy
-/// between addresses that differ by so little, as those of neighbours on the
-/// stack do, takes several times as long.
-const UNUSED: usize = (PROVED_BYTES - size_of::<plain::Book>()) % 4_096;
 
 /// The contribution book, passed by value.
 #[derive(Clone, Debug, PartialEq, Eq)]
 pub struct Book {
     plain: plain::Book,
-    unused: [u8; UNUSED],
-}
-
-impl Default for Book {
-    fn default() -> Book {
-        Book::fresh()
-    }
 }
 
 impl Book {
@@ -32,7 +16,6 @@ impl Book {
     pub fn fresh() -> Book {
         Book {
             plain: plain::Book::fresh(),
-            unused: [0; UNUSED],
         }
     }
 

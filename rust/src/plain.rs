@@ -18,6 +18,17 @@ pub const ACCOUNTS: usize = 128;
 pub const ENTRIES: usize = 1024;
 /// Bytes of an image's header and of each of its records.
 pub const RECORD: usize = 24;
+/// Bytes of the longest image, a full book's.
+pub const LONGEST: usize = RECORD * (ENTRIES + 1);
+
+/// The last day, 2099-12-31.
+pub const LAST_DAY: u16 = 36_524;
+pub const MAX_AMOUNT: u32 = 100_000_000;
+pub const MAX_PERIOD: u16 = 62;
+pub const MAX_RATE: u16 = 2_000;
+/// The days after a contribution from which an expiry may come and an added
+/// customer may not.
+pub const REFUND_DAYS: u16 = 1_826;
 
 pub const CONTRIBUTION: u8 = 1;
 pub const ADDED_CUSTOMER: u8 = 2;
@@ -171,13 +182,13 @@ pub struct Book {
     count: usize,
     /// Last serial of node 1 and of node 2.
     last_serials: [u32; 2],
+    unused: [u8; UNUSED],
 }
 
-impl Default for Book {
-    fn default() -> Book {
-        Book::fresh()
-    }
-}
+/// Unused bytes, for the times alone. Without them the book's size is 16 modulo
+/// 4,096, and a copy between addresses that differ by so little, as those of
+/// neighbours on the stack do, takes several times as long.
+const UNUSED: usize = 1_024;
 
 impl Book {
     /// The book with no entries.
@@ -187,6 +198,7 @@ impl Book {
             entries: [Entry::EMPTY; ENTRIES],
             count: 0,
             last_serials: [0; 2],
+            unused: [0; UNUSED],
         }
     }
 

@@ -3,9 +3,6 @@
 use contribution_book::{by_value, plain, plain::*, samples};
 use std::collections::BTreeSet;
 
-/// Bytes of a full book's image.
-const FULL: usize = 24_600;
-
 /// A sequence of numbers that look random, the same for each seed.
 struct Numbers(u64);
 
@@ -47,8 +44,8 @@ fn posted(entries: &[Raw]) -> (plain::Book, by_value::Book) {
 
 /// Saves both books and compares their images.
 fn saved(plain: &plain::Book, by_value: by_value::Book) -> Vec<u8> {
-    let mut image = [0xEE; FULL];
-    let mut same = [0xEE; FULL];
+    let mut image = [0xEE; LONGEST];
+    let mut same = [0xEE; LONGEST];
     let (refusal, length) = plain.save(&mut image);
     let (_, same_refusal, same_length) = by_value.save(&mut same);
     assert_eq!((refusal, length), (same_refusal, same_length));
@@ -67,18 +64,22 @@ fn postings_and_images() {
     }
 }
 
+/// The kind and the refusal number, or 0, of each entry of a list.
+fn answers(seed: u64) -> Vec<(u8, u8)> {
+    let mut book = plain::Book::fresh();
+    let answer = |raw: Raw| (raw.kind, book.post(&raw).refusal);
+    entries(seed).into_iter().map(answer).collect()
+}
+
 #[test]
 fn the_lists_have_accepted_and_refused_entries() {
     let mut accepted = BTreeSet::new();
     let mut refusals = BTreeSet::new();
-    for seed in 1..=10 {
-        let mut book = plain::Book::fresh();
-        for raw in entries(seed) {
-            match book.post(&raw).refusal {
-                0 => accepted.insert(raw.kind),
-                refusal => refusals.insert(refusal),
-            };
-        }
+    for (kind, refusal) in (1..=10).flat_map(answers) {
+        match refusal {
+            0 => accepted.insert(kind),
+            _ => refusals.insert(refusal),
+        };
     }
     assert!(accepted.into_iter().eq(CONTRIBUTION..=CORRECTION));
     assert!(refusals.into_iter().eq([8, 9, 10, 11, 12, 13, 16]));
@@ -120,13 +121,19 @@ fn carry_overs() {
 }
 
 #[test]
-fn queries() {
+fn statements() {
     let (plain, mut by_value) = posted(&entries(1));
     for account in 0..4 {
         let (next, reply) = by_value.statement(account, 20);
         assert_eq!(reply, plain.statement(account, 20));
         by_value = next;
     }
+    saved(&plain, by_value);
+}
+
+#[test]
+fn contribution_queries() {
+    let (plain, mut by_value) = posted(&entries(1));
     for serial in 0..=300 {
         let (next, reply) = by_value.contribution_query(1, 1, serial);
         assert_eq!(reply, plain.contribution_query(1, 1, serial));

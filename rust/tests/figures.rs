@@ -3,9 +3,6 @@
 
 use contribution_book::plain::*;
 
-/// Bytes of a full book's image.
-const FULL: usize = 24_600;
-
 /// An entry of node 1 and account 5 on day 0; a test sets the other fields.
 fn entry(kind: u8, serial: u32) -> Raw {
     Raw {
@@ -332,24 +329,27 @@ fn an_image_of_every_kind_loads_as_saved() {
     assert!(loaded == posted);
 }
 
+/// Posts entries to a fresh book, which refuses each by this number.
+fn all_refused(entries: &[Raw], refusal: u8) {
+    for &raw in entries {
+        refused(&mut Book::fresh(), raw, refusal);
+    }
+}
+
 #[test]
-fn refusals_1_to_5_fields() {
-    let mut book = Book::fresh();
+fn refusals_1_to_4_common_fields() {
     let good = payment(1, 1);
-    for kind in [0, 9, 255] {
-        refused(&mut book, Raw { kind, ..good }, 1);
-    }
-    for node in [0, 3] {
-        refused(&mut book, Raw { node, ..good }, 2);
-    }
-    for account in [0, 129] {
-        refused(&mut book, Raw { account, ..good }, 3);
-    }
-    refused(&mut book, on(36_525, good), 4);
-    let named = added(1, 1, 1);
+    all_refused(&[0, 9, 255].map(|kind| Raw { kind, ..good }), 1);
+    all_refused(&[0, 3].map(|node| Raw { node, ..good }), 2);
+    all_refused(&[0, 129].map(|account| Raw { account, ..good }), 3);
+    all_refused(&[on(36_525, good)], 4);
+    accepted(&mut Book::fresh(), on(36_524, good));
+}
+
+#[test]
+fn refusal_5_zero_where_the_kind_lists_no_field() {
+    let good = payment(1, 1);
     let broken = [
-        payment(1, 0),
-        payment(1, 100_000_001),
         Raw { a: 1, ..good },
         Raw { b: 1, ..good },
         Raw {
@@ -360,25 +360,10 @@ fn refusals_1_to_5_fields() {
             named_serial: 1,
             ..good
         },
-        contribution(1, 1, 0, 1),
-        contribution(1, 1, 1, 0),
-        contribution(1, 1, 1, 2),
-        contribution(1, 1, 1, 4),
-        added(1, 0, 1),
-        added(1, 1, 0),
         Raw {
-            named_node: 0,
-            ..named
+            amount: 1,
+            ..added(1, 1, 1)
         },
-        Raw {
-            named_node: 3,
-            ..named
-        },
-        Raw { amount: 1, ..named },
-        bill(1, 1, 0, 0),
-        bill(1, 1, 63, 0),
-        bill(1, 1, 30, 31),
-        deposit(1, 1, 2_001),
         Raw {
             amount: 1,
             ..deposit_return(1)
@@ -387,13 +372,38 @@ fn refusals_1_to_5_fields() {
             b: 1,
             ..expiry(1, 1)
         },
+    ];
+    all_refused(&broken, 5);
+}
+
+#[test]
+fn refusal_5_ranges() {
+    let broken = [
+        payment(1, 0),
+        payment(1, 100_000_001),
+        contribution(1, 1, 0, 1),
+        contribution(1, 1, 1, 0),
+        contribution(1, 1, 1, 2),
+        contribution(1, 1, 1, 4),
+        added(1, 0, 1),
+        added(1, 1, 0),
+        Raw {
+            named_node: 0,
+            ..added(1, 1, 1)
+        },
+        Raw {
+            named_node: 3,
+            ..added(1, 1, 1)
+        },
+        bill(1, 1, 0, 0),
+        bill(1, 1, 63, 0),
+        bill(1, 1, 30, 31),
+        deposit(1, 1, 2_001),
         correction(1, 0, 1),
         correction(1, 1, 100_000_001),
     ];
-    for raw in broken {
-        refused(&mut book, raw, 5);
-    }
-    accepted(&mut book, on(36_524, payment(1, 100_000_000)));
+    all_refused(&broken, 5);
+    accepted(&mut Book::fresh(), payment(1, 100_000_000));
 }
 
 #[test]
@@ -411,16 +421,24 @@ fn refusals_6_and_7_serials_and_a_full_book() {
     refused(&mut book, payment(1_023, 1), 6);
 }
 
+/// A contribution of three phases on day 100, and a payment.
+fn three_phases() -> Book {
+    book(&[on(100, contribution(1, 300_000, 200, 3)), payment(2, 1)])
+}
+
+/// An added customer on day 100 for that contribution.
+fn three_phase_customer() -> Raw {
+    Raw {
+        day: 100,
+        b: 3,
+        ..added(3, 1, 200)
+    }
+}
+
 #[test]
-fn refusals_8_to_15() {
-    let mut book = book(&[on(100, contribution(1, 300_000, 200, 3)), payment(2, 1)]);
-    let customer = on(
-        100,
-        Raw {
-            b: 3,
-            ..added(3, 1, 200)
-        },
-    );
+fn refusal_8_named_entries() {
+    let mut book = three_phases();
+    let customer = three_phase_customer();
     for raw in [
         added(3, 2, 1),
         added(3, 3, 1),
@@ -437,37 +455,41 @@ fn refusals_8_to_15() {
     ] {
         refused(&mut book, raw, 8);
     }
-    refused(&mut book, deposit_return(3), 9);
-    refused(
-        &mut book,
-        Raw {
-            day: 99,
-            ..customer
-        },
-        10,
-    );
+}
+
+#[test]
+fn refusals_10_14_and_15() {
+    let mut book = three_phases();
+    let customer = three_phase_customer();
+    refused(&mut book, on(99, customer), 10);
     refused(&mut book, on(99, expiry(3, 1)), 10);
     refused(&mut book, Raw { b: 1, ..customer }, 14);
     refused(&mut book, Raw { a: 201, ..customer }, 15);
     accepted(&mut book, customer);
-    accepted(&mut book, on(50, deposit(4, 1, 0)));
-    refused(&mut book, deposit(5, 1, 0), 9);
-    refused(&mut book, on(49, deposit_return(5)), 10);
-    accepted(&mut book, on(50, deposit_return(5)));
-    accepted(&mut book, on(50, deposit(6, 1, 0)));
+}
+
+#[test]
+fn refusals_9_and_10_of_deposits() {
+    let mut book = Book::fresh();
+    refused(&mut book, deposit_return(1), 9);
+    accepted(&mut book, on(50, deposit(1, 1, 0)));
+    refused(&mut book, deposit(2, 1, 0), 9);
+    refused(&mut book, on(49, deposit_return(2)), 10);
+    accepted(&mut book, on(50, deposit_return(2)));
+    accepted(&mut book, on(50, deposit(3, 1, 0)));
 }
 
 #[test]
 fn refusal_17_image_length() {
     load_refused(&[], 17, 0);
     let full = image(&payments(1_024));
-    assert_eq!(full.len(), FULL);
+    assert_eq!(full.len(), 24_600);
     load_refused(&full[..23], 17, 0);
     load_refused(&full[..25], 17, 0);
-    load_refused(&full[..FULL - 1], 17, 0);
+    load_refused(&full[..LONGEST - 1], 17, 0);
     let mut longer = full.clone();
-    longer.resize(FULL + 24, 0);
-    load_refused(&longer[..FULL + 1], 17, 0);
+    longer.resize(LONGEST + 24, 0);
+    load_refused(&longer[..LONGEST + 1], 17, 0);
     load_refused(&longer, 17, 0);
 
     let (loaded, refusal, record) = Book::load(&full);
@@ -599,6 +621,11 @@ fn statement_allowance() {
         };
         assert_eq!(book.statement(5, allowance), expected);
     }
+}
+
+#[test]
+fn statement_of_an_account_without_entries_and_of_none() {
+    let book = payments(1);
     let empty = StatementReply {
         complete: true,
         ..StatementReply::default()

@@ -2,14 +2,6 @@
 
 use super::*;
 
-/// The last day, 2099-12-31.
-const LAST_DAY: u16 = 36_524;
-const MAX_AMOUNT: u32 = 100_000_000;
-const MAX_PERIOD: u16 = 62;
-const MAX_RATE: u16 = 2_000;
-/// Added customers come within these days, an expiry after them.
-const REFUND_DAYS: u16 = 1_826;
-
 /// An entry that no refusal stops: its kind, with the place of the entry
 /// that it names.
 pub(super) enum Accepted {

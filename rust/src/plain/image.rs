@@ -62,9 +62,8 @@ impl Book {
 
 /// Refusals 17, 18 and 19.
 pub(crate) fn check_header(image: &[u8]) -> Result<(), u8> {
-    let longest = RECORD * (ENTRIES + 1);
     let length = image.len();
-    if length < RECORD || length > longest || !length.is_multiple_of(RECORD) {
+    if !(RECORD..=LONGEST).contains(&length) || !length.is_multiple_of(RECORD) {
         return Err(17);
     }
     if image[..4] != MARK[..] || image[6..RECORD].iter().any(|&byte| byte != 0) {

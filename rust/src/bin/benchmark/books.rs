@@ -2,7 +2,7 @@
 //! passed by value: each loads the image, and a carry-over saves the next.
 
 use crate::cases::{Call, Case};
-use contribution_book::plain::{parse_record, Raw, StatementReply, ENTRIES, RECORD};
+use contribution_book::plain::{parse_record, Raw, ENTRIES, RECORD};
 use contribution_book::proved::{self, Carried, Checked, StatementGiven, LONGEST};
 use contribution_book::{by_value, plain};
 
@@ -60,7 +60,9 @@ fn plain(case: &Case, buffers: &mut Buffers) -> Answer {
             let (refusal, bytes) = book.save(&mut buffers.output);
             carried(refusal, bytes)
         }
-        Call::Statement { account, allowance } => statement(book.statement(*account, *allowance)),
+        Call::Statement { account, allowance } => {
+            Answer::Statement(book.statement(*account, *allowance).into())
+        }
     }
 }
 
@@ -77,7 +79,7 @@ fn by_value(case: &Case, buffers: &mut Buffers) -> Answer {
         }
         Call::Statement { account, allowance } => {
             let (_, reply) = book.statement(*account, *allowance);
-            statement(reply)
+            Answer::Statement(reply.into())
         }
     }
 }
@@ -101,20 +103,5 @@ fn carried(refusal: u8, bytes: usize) -> Answer {
         refusal,
         bytes,
         ..Carried::default()
-    })
-}
-
-fn statement(reply: StatementReply) -> Answer {
-    Answer::Statement(StatementGiven {
-        refusal: reply.refusal,
-        record: 0,
-        links_read: reply.links_read as u16,
-        complete: reply.complete,
-        arrears: reply.arrears,
-        credit: reply.credit,
-        deposit: reply.deposit,
-        held: reply.held,
-        bills: reply.bills,
-        payments: reply.payments,
     })
 }

@@ -1,7 +1,6 @@
 //! The calls that are timed.
 
 use contribution_book::plain::*;
-use contribution_book::proved::LONGEST;
 use contribution_book::samples::{entry, named_kind};
 use std::ops::RangeInclusive;
 

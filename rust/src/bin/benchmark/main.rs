@@ -9,12 +9,14 @@ mod timing;
 
 use books::{Buffers, CALLERS};
 use cases::{Call, Case};
-use contribution_book::by_value::PROVED_BYTES;
 use contribution_book::plain::{ENTRIES, RECORD};
 use std::fs;
 use std::hint::black_box;
 use std::thread;
 use timing::{measure, Side};
+
+/// Bytes of the proved book.
+const PROVED_BYTES: usize = 87_056;
 
 fn main() {
     print_head();

@@ -5,13 +5,6 @@ use crate::history::History;
 use crate::random::Random;
 use contribution_book::plain::*;
 
-const LAST_DAY: u16 = 36_524;
-const MAX_AMOUNT: u32 = 100_000_000;
-const MAX_PERIOD: u16 = 62;
-const MAX_RATE: u16 = 2_000;
-/// The days after a contribution from which an expiry may come and an added
-/// customer may not.
-const REFUND_DAYS: u16 = 1_826;
 /// A deposit of an odd number of times these cents, at this rate, earns an
 /// interest that ends in one half in an odd number of times these days.
 const HALF_DEPOSIT: u32 = 250;

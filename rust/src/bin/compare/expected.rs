@@ -113,18 +113,7 @@ fn save(book: &Book, output: &mut [u8]) -> Given<usize> {
 fn statement(book: &Book, account: u16, allowance: u64) -> Given<StatementGiven> {
     let reply = book.statement(account, allowance);
     accept(reply.refusal)?;
-    Ok(StatementGiven {
-        refusal: 0,
-        record: 0,
-        links_read: reply.links_read as u16,
-        complete: reply.complete,
-        arrears: reply.arrears,
-        credit: reply.credit,
-        deposit: reply.deposit,
-        held: reply.held,
-        bills: reply.bills,
-        payments: reply.payments,
-    })
+    Ok(reply.into())
 }
 
 fn contribution(book: &Book, account: u16, node: u8, serial: u32) -> Given<ContributionGiven> {

@@ -3,8 +3,7 @@
 use crate::entries::{self, Pool};
 use crate::history::History;
 use crate::random::Random;
-use contribution_book::plain::{write_record, ENTRIES, RECORD};
-use contribution_book::proved::LONGEST;
+use contribution_book::plain::{write_record, ENTRIES, LONGEST, RECORD};
 
 /// How an image came about.
 #[derive(Clone, Copy, Debug, PartialEq, Eq)]

@@ -8,7 +8,6 @@ use crate::history::History;
 use crate::images::{self, Kind};
 use crate::random::Random;
 use contribution_book::plain::*;
-use contribution_book::proved::LONGEST;
 
 pub struct List {
     random: Random,

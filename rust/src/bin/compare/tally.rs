@@ -169,11 +169,10 @@ impl Tally {
             add(calls, name);
         }
         add(&self.carried, "entry carried");
-        for (name, [accepted, _]) in ENTRY_KINDS.iter().zip(self.entry_kinds).skip(1) {
-            if accepted < LEAST {
-                shortages.push(format!("{name}: accepted fewer than {LEAST} times"));
-            }
-        }
+        let kinds = ENTRY_KINDS.iter().zip(self.entry_kinds).skip(1);
+        let rare = kinds.filter(|(_, [accepted, _])| *accepted < LEAST);
+        shortages
+            .extend(rare.map(|(name, _)| format!("{name}: accepted fewer than {LEAST} times")));
         shortages
     }
 }
