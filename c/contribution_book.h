@@ -91,8 +91,8 @@ struct contribution_book_carried {
  * Leaves   each entry's refusal number, or 0, at its place in the result list, and the next image at the start of the
  *          output. The two must not overlap each other, the image or the run.
  *
- * An output of CONTRIBUTION_BOOK_LONGEST bytes always has room. With a shorter one each entry is posted twice, the first
- * time only to learn whether the next image fits.
+ * An output of CONTRIBUTION_BOOK_LONGEST bytes always has room. Where an output has no room for the image with all the
+ * entries, each is posted twice, the first time only to learn whether the next image fits.
  */
 struct contribution_book_carried contribution_book_carry_over(const uint8_t *image, size_t image_length,
                                                               const uint8_t *run, size_t run_length, uint8_t *results,

@@ -1,7 +1,7 @@
 -- Laws of a posting: what an accepted one has passed, and what each outcome makes of the book.
-use Prim.Native.Nat.{ℕ, _+_, _<_}
+use Prim.Native.Nat.{ℕ, _+_, _<_, _≤_}
 use mathlib.Core.List.{List, [], _∷_, _++_}
-use lib.ListN.{getD, set}
+use lib.ListN.{length, getD, set}
 use mathlib.Core.Path.{_≡_, refl}
 use native.Mathlib.Omega.{arith}
 use borrow.Author.Tests.{leb-false}
@@ -103,3 +103,17 @@ pub posts-append : (b : Book) (rs ts : List Raw) → postsOf (postsOf b rs) ts �
 unfolding postsOf
 posts-append b [] ts = refl
 posts-append b (r ∷ rs) ts = posts-append (postOf b r .book) rs ts
+
+-- an entry adds one to the count at most
+post-count : (b : Book) (r : Raw) → postOf b r .book .count ≤ b .count + 1
+unfolding postOf bookAfter storedOf
+post-count b r = by (decisionOf b r)
+  where
+    by : (o : Outcome) → bookAfter b r (namedAt b r) o .count ≤ b .count + 1
+    by (Refused n) = omega arith
+    by (Accepted c) = omega arith
+
+pub posts-count : (b : Book) (rs : List Raw) → postsOf b rs .count ≤ b .count + length rs
+unfolding postsOf
+posts-count b [] = omega arith
+posts-count b (r ∷ rs) = omega (arith, post-count b r, posts-count (postOf b r .book) rs)

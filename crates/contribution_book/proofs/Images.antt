@@ -1,9 +1,8 @@
 -- Laws of the calls on images: which refusal stands first, and what an accepted call leaves.
-use Prim.Native.Nat.{ℕ, _/_, _%_, _<_, _≤_}
+use Prim.Native.Nat.{ℕ, _+_, _*_, _/_, _%_, _<_, _≤_, min}
 use mathlib.Core.Path.{_≡_, refl, sym, ap, _∙_}
 use mathlib.Core.Bool.{Bool, true, false, cond}
 use mathlib.Core.List.{List, [], _∷_}
-use native.Mathlib.Nat.{min-le-right}
 use native.Mathlib.Omega.{arith}
 use lib.ListN.{length}
 use lib.Dec.{eqb, ltb}
@@ -12,6 +11,7 @@ use Rattle.entries.specs.Refusals.{refusalNumber}
 use Rattle.entries.specs.declared.refusals.Refusal.{Refusal}
 use Rattle.book.specs.declared.Book.{Book}
 use Rattle.book.specs.Posting.{postOf}
+use Rattle.book.proofs.Posting.{posts-count}
 use Rattle.carry.specs.Carry.{refusalsOf, carryRefusalOf, carryResultsOf}
 use Rattle.image.specs.Saves.{SaveReply, refusedSave, acceptedSave, bytesOf, saveOf, savedIn}
 use Rattle.entries.proofs.Numbers.{refusal-above, is-refusal}
@@ -26,9 +26,9 @@ use Rattle.contribution_book.specs.Posts.{postGiven, refusedPost, entryI
 use Rattle.contribution_book.specs.Carries.{acceptedCarry, refusedCarry, runOf, nextOf, runRefusal, carryRefusal, carryInto, carryImage, putAll}
 use Rattle.contribution_book.proofs.Runs.{length-run, results-put}
 
--- no image is longer than the longest
-pub image-most : (b : Book) → bytesOf b ≤ 24600
-image-most b = omega (arith, min-le-right (b .count) 1024)
+-- the image after a run has a record for each entry at most
+pub image-most : (b : Book) (run : List ℕ) → bytesOf (nextOf b run) ≤ 24 * (min (min (b .count) 1024 + length run / 24) 1024 + 1)
+image-most b run = omega (arith, posts-count b (runOf run), length-run run)
 
 -- ---- the first refusal
 

@@ -13,14 +13,14 @@ use Rattle.book.specs.Fresh.{entriesMost}
 use Rattle.book.specs.Posting.{postOf, postsOf}
 use Rattle.book.specs.declared.Book.{Book}
 use Rattle.image.specs.Saves.{bytesOf, saveOf, savedIn}
-use Rattle.image.specs.Loads.{wholeOf, loadOf, recordsIn}
+use Rattle.image.specs.Loads.{loadOf, recordsIn}
 use Rattle.image.specs.Rounds.{AllTyped, rawIn}
 use Rattle.image.proofs.Again.{save-front}
 use Rattle.image.proofs.Trips.{decoded-typed, loaded-posts, replays, trips}
 use Rattle.contribution_book.specs.Order.{firstRefusal}
 use Rattle.contribution_book.specs.Posts.{PostOutcome, entryIn, entryRefusal, postRefusal, postInto, postImage}
 use Rattle.contribution_book.specs.Carries.{CarryOutcome, runOf, nextOf, carryRefusal, carryInto, carryImage}
-use Rattle.contribution_book.specs.Trips.{HostTrips}
+use Rattle.contribution_book.specs.Trips.{Passed, HostTrips}
 
 -- where none is refused, the first and the rest are not
 none-first : (n : ℕ) (ns : List ℕ) → firstRefusal (n ∷ ns) ≡ 0 → (n ≡ 0) × (firstRefusal ns ≡ 0)
@@ -33,11 +33,12 @@ none-first n ns e = by (eqb n 0) refl e
 
 -- a list of postings to a loaded book, saved where there is room
 saved-on : (l output : List ℕ) → Bytes l → loadOf l .refusal ≡ 0 → (rs : List Raw) → AllTyped rs → (b : Book) →
-    b ≡ postsOf (loadOf l .book) rs → saveOf b output .refusal ≡ 0 → loadOf (take (bytesOf b) (savedIn b output)) ≡ wholeOf b
+    b ≡ postsOf (loadOf l .book) rs → saveOf b output .refusal ≡ 0 → Passed b (take (bytesOf b) (savedIn b output))
 saved-on l output h e rs t b q s =
     let full : length (b .entries) ≡ entriesMost =
     ap (λ (x : Book). length (x .entries)) (q ∙ loaded-posts l e rs) ∙ replays (map rawIn (recordsIn l) ++ rs) .good .full in
-    ap loadOf (save-front b output full s) ∙ rw q (trips .loaded-on l h e rs t)
+    let image = save-front b output full s in
+    record { image = image; loads = ap loadOf image ∙ rw q (trips .loaded-on l h e rs t) }
 
 -- an accepted call has passed the image's refusals and its own
 accepted-only : {O : Type 0} (refusal : O → ℕ) (n m : ℕ) (a b c o : O) → refusal b ≡ m → refusal c ≡ n →
@@ -59,26 +60,39 @@ entry-sized entry h = by (eqb (length entry) 24) refl h
     by true p e = eqb-true (length entry) 24 p
     by false p e = absurd (omega arith)
 
+entry-typed : (entry : List ℕ) → Bytes entry → entryRefusal entry ≡ 0 → AllTyped (entryIn entry ∷ [])
+entry-typed entry h e = let size = entry-sized entry e in decoded-typed 1 entry (omega arith) h
+
+-- an accepted entry's fields fit their bytes
+pub post-typed : (l entry output : List ℕ) → Bytes entry → (o : PostOutcome) → o ≡ postImage (loadOf l) entry output →
+    o .given .refusal ≡ 0 → AllTyped (entryIn entry ∷ [])
+unfolding postImage postInto postRefusal
+post-typed l entry output h o q n =
+    let p = accepted-only (λ (x : PostOutcome). x .given .refusal) (loadOf l .refusal) (postRefusal (loadOf l .book) entry output) _ _ _ o refl refl q n in
+    entry-typed entry h (none-first _ _ (p .1) .0)
+
 post-saved : (l entry output : List ℕ) → Bytes l → Bytes entry → loadOf l .refusal ≡ 0 →
     postRefusal (loadOf l .book) entry output ≡ 0 →
-    loadOf (take (bytesOf (postOf (loadOf l .book) (entryIn entry) .book)) (savedIn (postOf (loadOf l .book) (entryIn entry) .book) output)) ≡
-    wholeOf (postOf (loadOf l .book) (entryIn entry) .book)
+    Passed (postOf (loadOf l .book) (entryIn entry) .book) (take (bytesOf (postOf (loadOf l .book) (entryIn entry) .book)) (savedIn (postOf (loadOf l .book) (entryIn entry) .book) output))
 unfolding postRefusal postsOf
 post-saved l entry output hl he e n =
     let first = none-first _ _ n in
     let rest = none-first _ _ (none-first _ _ (first .1) .1) in
-    let size = entry-sized entry (first .0) in
-    saved-on l output hl e (entryIn entry ∷ []) (decoded-typed 1 entry (omega arith) he) _ refl (rest .0)
+    saved-on l output hl e (entryIn entry ∷ []) (entry-typed entry he (first .0)) _ refl (rest .0)
 
 -- ---- a carry-over
 
+pub run-typed : (run : List ℕ) → Bytes run → AllTyped (runOf run)
+unfolding runOf
+run-typed run h = decoded-typed (length run / 24) run (omega arith) h
+
 carry-saved : (l run results output : List ℕ) → Bytes l → Bytes run → loadOf l .refusal ≡ 0 →
     carryRefusal (loadOf l .book) run results output ≡ 0 →
-    loadOf (take (bytesOf (nextOf (loadOf l .book) run)) (savedIn (nextOf (loadOf l .book) run) output)) ≡ wholeOf (nextOf (loadOf l .book) run)
-unfolding carryRefusal runOf
+    Passed (nextOf (loadOf l .book) run) (take (bytesOf (nextOf (loadOf l .book) run)) (savedIn (nextOf (loadOf l .book) run) output))
+unfolding carryRefusal
 carry-saved l run results output hl hr e n =
     let rest = none-first _ _ (none-first _ _ (none-first _ _ n .1) .1) in
-    saved-on l output hl e (runOf run) (decoded-typed (length run / 24) run (omega arith) hr) _ refl (rest .0)
+    saved-on l output hl e (runOf run) (run-typed run hr) _ refl (rest .0)
 
 pub host-trips : HostTrips
 unfolding postImage postInto carryImage carryInto

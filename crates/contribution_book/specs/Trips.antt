@@ -5,16 +5,23 @@ use mathlib.Core.List.{List}
 use lib.ListN.{take}
 use Rattle.codec.specs.Bytes.{Bytes}
 use Rattle.book.specs.Posting.{postOf}
+use Rattle.book.specs.declared.Book.{Book}
+use Rattle.image.specs.Saves.{imageOf}
 use Rattle.image.specs.Loads.{wholeOf, loadOf}
 use Rattle.contribution_book.specs.Posts.{PostOutcome, entryIn, postImage}
 use Rattle.contribution_book.specs.Carries.{CarryOutcome, nextOf, carryImage}
 
+-- an image that carries a book on to the next call
+pub record Passed (b : Book) (l : List ℕ) : Type 0 where
+  pub image : l ≡ imageOf b
+  pub loads : loadOf l ≡ wholeOf b
+
 -- proofs/Trips.antt shows it
 pub record HostTrips : Type 0 where
-  -- The image that an accepted posting writes loads as the next book, whole.
+  -- An accepted posting writes the image of the next book, which loads as that book, whole.
   pub posted : (l entry output : List ℕ) → Bytes l → Bytes entry → (o : PostOutcome) → o ≡ postImage (loadOf l) entry output →
-      o .given .refusal ≡ 0 → loadOf (take (o .given .bytes) (o .output)) ≡ wholeOf (postOf (loadOf l .book) (entryIn entry) .book)
-  -- The image that an accepted carry-over writes loads as the book after the run, whole.
+      o .given .refusal ≡ 0 → Passed (postOf (loadOf l .book) (entryIn entry) .book) (take (o .given .bytes) (o .output))
+  -- So does an accepted carry-over.
   pub carried : (l run results output : List ℕ) → Bytes l → Bytes run → (o : CarryOutcome) →
       o ≡ carryImage (loadOf l) run results output → o .given .refusal ≡ 0 →
-      loadOf (take (o .given .bytes) (o .output)) ≡ wholeOf (nextOf (loadOf l .book) run)
+      Passed (nextOf (loadOf l .book) run) (take (o .given .bytes) (o .output))

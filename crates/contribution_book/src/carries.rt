@@ -1,7 +1,6 @@
 // A carry-over of a run of entries into an image.
 use book::Book;
 use book::Posted;
-use codec::LONGEST;
 use codec::RECORD;
 use codec::record_in;
 use entries::Refusal;
@@ -12,9 +11,11 @@ use image::save;
 use image::size;
 use rules::Answer;
 ghost use mathlib.Core.Path.{_≡_};
+ghost use Prim.Native.Nat.{_+_, _≤_, min};
 ghost use lib.ListN.{set};
 ghost use lib.Dec.{ltb};
 ghost use Rattle.entries.specs.Refusals.{refusalNumber};
+ghost use Rattle.book.specs.Fresh.{entriesMost};
 ghost use Rattle.carry.specs.Carry.{refusalsOf};
 ghost use Rattle.image.specs.Saves.{bytesOf};
 ghost use Rattle.image.specs.Loads.{loadOf};
@@ -72,13 +73,28 @@ fn posts(book: Book, run: &[u8], results: &mut [u8]) -> Book
     posted.book
 }
 
-// Whether an output of a length is too short for the image after the run. One of the longest image's length never is.
+// The most entries that an image can have after a run of so many.
+fn most_after(count: u16, more: usize) -> usize
+    ensures { λ r. ⌜ (r ≡ min (min count entriesMost + more) entriesMost) × (r ≤ entriesMost) ⌝ }
+{
+    let size = size(count) as usize;
+    if more < Book::ENTRIES - size {
+        size + more
+    } else {
+        Book::ENTRIES
+    }
+}
+
+// Whether an output of a length is too short for the image after the run. Where it has no room for all the entries, they are
+// posted to learn how many are accepted.
 fn too_short(book: Book, run: &[u8], length: usize) -> bool
     ensures { λ r. ⌜ r ≡ ltb length (bytesOf (nextOf book (now (run .entry)))) ⌝ }
 {
-    if LONGEST <= length {
+    let most = most_after(book.count, run.len() / RECORD);
+    if RECORD * (most + 1) <= length {
         return false;
     }
+    // The results are not read.
     let mut unused = [0u8; 1];
     let next = posts(book, run, &mut unused);
     let size = size(next.count);
@@ -109,6 +125,7 @@ fn carry_into(book: Book, run: &[u8], results: &mut [u8], output: &mut [u8]) -> 
     }
 }
 
+// Carries a run of entries over into an image.
 #[no_mangle]
 pub extern "C" fn contribution_book_carry_over(
     image: &[u8],

@@ -14,6 +14,7 @@ pub struct Checked {
     pub entries: u16,
 }
 
+// Checks an image, and counts its entries.
 #[no_mangle]
 pub extern "C" fn contribution_book_check(image: &[u8]) -> Checked
     ensures { λ r. ⌜ r ≡ checkedOf (loadOf (now (image .entry))) ⌝ }

@@ -73,6 +73,7 @@ fn post_into(book: Book, entry: &[u8], output: &mut [u8]) -> PostGiven
     }
 }
 
+// Posts an entry to an image.
 #[no_mangle]
 pub extern "C" fn contribution_book_post(image: &[u8], entry: &[u8], output: &mut [u8]) -> PostGiven
     ensures { λ r. ⌜ (record { given = r; output = now (output .exit) }) ≡ postImage (loadOf (now (image .entry))) (now (entry .entry)) (now (output .entry)) ⌝ }

@@ -58,6 +58,7 @@ fn statement_given(reply: StatementReply, record: u16) -> StatementGiven
     }
 }
 
+// The statement of an account of an image.
 #[no_mangle]
 pub extern "C" fn contribution_book_statement(
     image: &[u8],
@@ -95,6 +96,7 @@ fn contribution_given(reply: ContributionReply, record: u16) -> ContributionGive
     }
 }
 
+// What is known of a contribution of an image.
 #[no_mangle]
 pub extern "C" fn contribution_book_contribution(
     image: &[u8],

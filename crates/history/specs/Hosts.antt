@@ -3,13 +3,15 @@ use Prim.Native.Nat.{ℕ, _+_, _*_}
 use mathlib.Core.Path.{_≡_}
 use mathlib.Core.Bool.{cond}
 use mathlib.Core.List.{List, [], _∷_, map}
-use lib.ListN.{length}
+use lib.ListN.{length, take}
 use lib.Dec.{eqb, ltb}
+use Rattle.codec.specs.Bytes.{Bytes}
 use Rattle.image.specs.Loads.{loadOf, recordsIn}
 use Rattle.image.specs.Rounds.{rawIn}
 use Rattle.contribution_book.specs.Order.{firstRefusal}
-use Rattle.contribution_book.specs.Posts.{postGiven, refusedPost, entryIn, entryRefusal, postImage}
-use Rattle.contribution_book.specs.Carries.{acceptedCarry, refusedCarry, runOf, runRefusal, carryImage}
+use Rattle.contribution_book.specs.Checks.{checkedOf}
+use Rattle.contribution_book.specs.Posts.{PostOutcome, postGiven, refusedPost, entryIn, entryRefusal, postImage}
+use Rattle.contribution_book.specs.Carries.{CarryOutcome, acceptedCarry, refusedCarry, runOf, runRefusal, carryImage}
 use Rattle.contribution_book.specs.Reads.{statementGiven, statementImage, contributionGiven, contributionImage}
 use Rattle.contribution_book.specs.declared.postings.PostGiven.{PostGiven}
 use Rattle.contribution_book.specs.declared.carries.CarryGiven.{CarryGiven}
@@ -58,13 +60,20 @@ pub record Hosted (l : List ℕ) : Type 0 where
   -- the history's sums, and no two corrections on one account that name the same entry
   pub lawful : Lawful (historyIn l)
   -- what the exported calls give is the history's
+  pub checked : checkedOf (loadOf l) ≡ record { refusal = 0; «record» = 0; entries = length (historyIn l) }
   pub posted : (entry output : List ℕ) → postImage (loadOf l) entry output .given ≡ postIn (historyIn l) entry output
   pub carried : (run results output : List ℕ) → carryImage (loadOf l) run results output .given ≡ carryIn (historyIn l) run results output
   pub results : (run results output : List ℕ) → carryImage (loadOf l) run results output .results ≡ resultsIn (historyIn l) run results output
   pub stated : (account allowance : ℕ) →
       statementImage (loadOf l) account allowance ≡ statementGiven (statementIn (historyIn l) account allowance) 0
-  pub given : (account node serial : ℕ) →
+  pub queried : (account node serial : ℕ) →
       contributionImage (loadOf l) account node serial ≡ contributionGiven (contributionIn (historyIn l) account node serial) 0
+  -- the image that an accepted call writes has the next history
+  pub post-next : (entry output : List ℕ) → Bytes l → Bytes entry → (o : PostOutcome) → o ≡ postImage (loadOf l) entry output →
+      o .given .refusal ≡ 0 → historyIn (take (o .given .bytes) (o .output)) ≡ offer (historyIn l) (entryIn entry)
+  pub carry-next : (run results output : List ℕ) → Bytes l → Bytes run → (o : CarryOutcome) →
+      o ≡ carryImage (loadOf l) run results output → o .given .refusal ≡ 0 →
+      historyIn (take (o .given .bytes) (o .output)) ≡ offers (historyIn l) (runOf run)
 
 -- proofs/Hosts.antt shows it
 abbrev pub Demand3Hosts : Type 0

@@ -109,7 +109,7 @@ unfolding loadAll freshBook
 replays-fresh = record { good = good-fresh; again = refl }
 
 -- the book that a posting leaves, by whether it was refused
-posting : (P : Book → Type 0) (b : Book) (r : Raw) → P b → (postOf b r .reply .refusal ≡ 0 → P (postOf b r .book)) → P (postOf b r .book)
+pub posting : (P : Book → Type 0) (b : Book) (r : Raw) → P b → (postOf b r .reply .refusal ≡ 0 → P (postOf b r .book)) → P (postOf b r .book)
 posting P b r kept taken = by (decisionOf b r) refl
   where
     by : (o : Outcome) → decisionOf b r ≡ o → P (postOf b r .book)
@@ -150,19 +150,26 @@ in-range-all (r ∷ rs) b t g h =
 size-count : (b : Book) → Good b → sizeOf b ≡ b .count
 size-count b g = min-eq-left (g .few)
 
--- a saved image passes the checks, and its records are the book's
+-- the records of a saved image are the book's
+image-records : (b : Book) → length (b .entries) ≡ entriesMost → AllInRange (recordsOf b (sizeOf b)) →
+    recordsIn (imageOf b) ≡ recordsOf b (sizeOf b)
+unfolding imageOf
+image-records b full h =
+    let n : ℕ = sizeOf b in
+    let rest : List ℕ = encodeAll (recordsOf b n) in
+    let count : countIn (headerOf n ++ rest) ≡ n = count-header n rest (omega arith) in
+    let body : drop 24 (headerOf n ++ rest) ≡ rest = drop-at (headerOf n) rest 24 (length-header n) in
+    let all : decodeAll n rest ≡ recordsOf b n = rw (length-records b n (omega arith)) at (decode-encode-all (recordsOf b n) h) in
+    rw (count, body) all
+
+-- and it passes the checks
 image-loads : (b : Book) → length (b .entries) ≡ entriesMost → AllInRange (recordsOf b (sizeOf b)) →
     loadOf (imageOf b) ≡ loadAll (recordsOf b (sizeOf b)) freshBook 1
 unfolding imageOf
 image-loads b full h =
     let n : ℕ = sizeOf b in
-    let rest : List ℕ = encodeAll (recordsOf b n) in
-    let len : length (headerOf n ++ rest) ≡ 24 * (n + 1) = length-image b full in
-    let count : countIn (headerOf n ++ rest) ≡ n = count-header n rest (omega arith) in
-    let body : drop 24 (headerOf n ++ rest) ≡ rest = drop-at (headerOf n) rest 24 (length-header n) in
-    let all : decodeAll n rest ≡ recordsOf b n = rw (length-records b n (omega arith)) at (decode-encode-all (recordsOf b n) h) in
-    load-begins (headerOf n ++ rest) (header-passes n rest (omega arith) len) ∙
-    ap (λ (q : List Record). loadAll q freshBook 1) (rw (count, body) all)
+    load-begins (imageOf b) (header-passes n (encodeAll (recordsOf b n)) (omega arith) (length-image b full)) ∙
+    ap (λ (q : List Record). loadAll q freshBook 1) (image-records b full h)
 
 pub saved-loads : (rs : List Raw) (b : Book) → b ≡ postsOf freshBook rs → AllInRange (recordsOf b (sizeOf b)) → loadOf (imageOf b) ≡ wholeOf b
 saved-loads rs b e h =
@@ -202,6 +209,20 @@ extend (r ∷ rs) b i g e = by (eqb (stopOf b r) 0) refl (extend rs (postOf b (r
           posted = rest .posted;
         }
 
+-- it names no record
+faultless : (rs : List Record) (b : Book) (i : ℕ) → loadAll rs b i .refusal ≡ 0 → loadAll rs b i .faulty ≡ 0
+unfolding loadAll
+faultless [] b i e = refl
+faultless (r ∷ rs) b i e = by (eqb (stopOf b r) 0) refl (faultless rs (postOf b (r .raw) .book) (i + 1)) e
+  where
+    rest : LoadReply
+    rest = loadAll rs (postOf b (r .raw) .book) (i + 1)
+
+    by : (t : Bool) → eqb (stopOf b r) 0 ≡ t → (rest .refusal ≡ 0 → rest .faulty ≡ 0) →
+        cond t rest (failedOf (stopOf b r) i) .refusal ≡ 0 → cond t rest (failedOf (stopOf b r) i) .faulty ≡ 0
+    by true p more h = more h
+    by false p more h = absurd (eqb-false _ 0 p h)
+
 -- an image that is not refused passes the checks
 pub load-checked : (l : List ℕ) → loadOf l .refusal ≡ 0 → checkOf l ≡ check.Passed
 unfolding loadOf begunOf
@@ -215,6 +236,11 @@ loaded : (l : List ℕ) → loadOf l .refusal ≡ 0 → Extends freshBook (loadO
 loaded l e =
     let begins = load-begins l (load-checked l e) in
     rw begins (extend (recordsIn l) freshBook 1 good-fresh (ap (λ (q : LoadReply). q .refusal) (sym begins) ∙ e))
+
+pub loaded-faultless : (l : List ℕ) → loadOf l .refusal ≡ 0 → loadOf l .faulty ≡ 0
+loaded-faultless l e =
+    let begins = load-begins l (load-checked l e) in
+    rw begins (faultless (recordsIn l) freshBook 1 (ap (λ (q : LoadReply). q .refusal) (sym begins) ∙ e))
 
 pub loaded-full : (l : List ℕ) → loadOf l .refusal ≡ 0 → length (loadOf l .book .entries) ≡ entriesMost
 loaded-full l e = loaded l e .good .full
@@ -241,10 +267,17 @@ fresh-in-range : AllInRange (recordsOf freshBook (freshBook .count))
 unfolding freshBook
 fresh-in-range = tt
 
+posted-in-range : (rs : List Raw) → AllTyped rs → AllInRange (recordsOf (postsOf freshBook rs) (sizeOf (postsOf freshBook rs)))
+posted-in-range rs t = rw (size-count (postsOf freshBook rs) (replays rs .good)) (in-range-all rs freshBook t good-fresh fresh-in-range)
+
 posted-loads : (rs : List Raw) → AllTyped rs → loadOf (imageOf (postsOf freshBook rs)) ≡ wholeOf (postsOf freshBook rs)
-posted-loads rs t =
+posted-loads rs t = saved-loads rs (postsOf freshBook rs) refl (posted-in-range rs t)
+
+pub posted-records : (rs : List Raw) → AllTyped rs →
+    recordsIn (imageOf (postsOf freshBook rs)) ≡ recordsOf (postsOf freshBook rs) (postsOf freshBook rs .count)
+posted-records rs t =
     let b = postsOf freshBook rs in
-    saved-loads rs b refl (rw (size-count b (replays rs .good)) (in-range-all rs freshBook t good-fresh fresh-in-range))
+    image-records b (replays rs .good .full) (posted-in-range rs t) ∙ ap (recordsOf b) (size-count b (replays rs .good))
 
 -- ---- a book that was loaded and then posted to
 
@@ -267,15 +300,17 @@ pub loaded-posts : (l : List ℕ) → loadOf l .refusal ≡ 0 → (rs : List Raw
 loaded-posts l e rs =
     ap (λ (b : Book). postsOf b rs) (loaded l e .posted) ∙ posts-append freshBook (map rawIn (recordsIn l)) rs
 
+-- with the records of the image before them, typed
+pub loaded-typed : (l : List ℕ) → Bytes l → loadOf l .refusal ≡ 0 → (rs : List Raw) → AllTyped rs → AllTyped (map rawIn (recordsIn l) ++ rs)
+loaded-typed l h e rs t =
+    let c = checked l (load-checked l e) in
+    typed-append (map rawIn (recordsIn l)) rs (decoded-typed (countIn l) (drop 24 l) (simp length-drop (omega (arith, c .sized))) (bytes-drop 24 l h)) t
+
 pub trips : RoundTrips
 trips =
     record {
       saved-loads = posted-loads;
       loaded-saves = loaded-saves;
       loaded-posted = λ l e. loaded l e .posted;
-      loaded-on = λ l h e rs t.
-          let c = checked l (load-checked l e) in
-          let records = map rawIn (recordsIn l) in
-          let typed = decoded-typed (countIn l) (drop 24 l) (simp length-drop (omega (arith, c .sized))) (bytes-drop 24 l h) in
-          rw (loaded-posts l e rs) (posted-loads (records ++ rs) (typed-append records rs typed t));
+      loaded-on = λ l h e rs t. rw (loaded-posts l e rs) (posted-loads _ (loaded-typed l h e rs t));
     }

@@ -11,8 +11,17 @@ use Rattle.contribution_book.proofs.Images.{image-most}
 use Rattle.contribution_book.proofs.carries.too_short.Statement.{statement}
 use Rattle.contribution_book.proofs.carries.too_short.Tie as tie
 
+most-after-requires : tie.Need-most-after-requires
+most-after-requires c κs = search needs
+
+add-if1 : tie.Need-add-if1
+add-if1 c = search needs
+
+mul-if1 : tie.Need-mul-if1
+mul-if1 c = search needs
+
 returns : tie.Need-returns
-returns c = sym (le-ltb (c .before .before .args .length) (bytesOf (nextOf (c .before .before .args .book) (now (c .before .before .args .run)))) (omega (arith, image-most (nextOf (c .before .before .args .book) (now (c .before .before .args .run))))))
+returns c = sym (le-ltb (c .before .before .before .args .length) (bytesOf (nextOf (c .before .before .before .args .book) (now (c .before .before .before .args .run)))) (omega (arith, image-most (c .before .before .before .args .book) (now (c .before .before .before .args .run)), c .before .most-after .ensures .0)))
 
 slice-aggregate-posts : tie.Need-slice-aggregate-posts
 slice-aggregate-posts c = search needs
@@ -33,12 +42,15 @@ mul-result : tie.Need-mul-result
 mul-result c = search needs
 
 returns-2 : tie.Need-returns-2
-returns-2 c = ap (λ n. ltb (c .before .before .before .before .before .before .args .length) (24 * (n + 1))) (c .size .ensures .0) ∙ ap (λ b. ltb (c .before .before .before .before .before .before .args .length) (bytesOf b)) (c .before .before .posts .ensures .0)
+returns-2 c = ap (λ n. ltb (c .before .before .before .before .before .before .before .args .length) (24 * (n + 1))) (c .size .ensures .0) ∙ ap (λ b. ltb (c .before .before .before .before .before .before .before .args .length) (bytesOf b)) (c .before .before .posts .ensures .0)
 
 pub too-short-spec : {M : Type 1} → statement M
 too-short-spec =
     tie.close
     (tie.spec
+    most-after-requires
+    add-if1
+    mul-if1
     returns
     slice-aggregate-posts
     posts-requires
