@@ -67,10 +67,15 @@ un-one l at = omega (arith, un-next l at (at + 1) 0 refl)
 pub un-two : (l : List ℕ) (at : ℕ) → un (take 2 (drop at l)) ≡ getD l at 0 + 256 * getD l (at + 1) 0
 un-two l at = omega (arith, un-next l at (at + 1) 1 refl, un-next l (at + 1) (at + 2) 0 (omega arith))
 
-pub un-four : (l : List ℕ) (at : ℕ) →
-    un (take 4 (drop at l)) ≡ getD l at 0 + 256 * (getD l (at + 1) 0 + 256 * (getD l (at + 2) 0 + 256 * getD l (at + 3) 0))
+pub un-four : (l : List ℕ) (at : ℕ) → un (take 4 (drop at l)) ≡ un (take 2 (drop at l)) + 65536 * un (take 2 (drop (at + 2) l))
 un-four l at =
-    omega (arith, un-next l at (at + 1) 3 refl, un-next l (at + 1) (at + 2) 2 (omega arith), un-next l (at + 2) (at + 3) 1 (omega arith), un-next l (at + 3) (at + 4) 0 (omega arith))
+    omega (arith, un-two l at, un-next l at (at + 1) 3 refl, un-next l (at + 1) (at + 2) 2 (omega arith))
+
+-- the same bytes, 0 past the end, are the same number
+pub un-same : (w : ℕ) (a b : List ℕ) → ((i : ℕ) → i < w → getD a i 0 ≡ getD b i 0) → un (take w a) ≡ un (take w b)
+un-same zero a b h = refl
+un-same (suc w) a b h =
+    rw (un-head w a, un-head w b, h 0 (omega arith), un-same w (drop 1 a) (drop 1 b) (λ i k. rw (getD-drop 1 a i 0, getD-drop 1 b i 0) (h (1 + i) (omega arith))))
 
 -- ---- sameness
 

@@ -3,11 +3,11 @@ use Prim.Native.Nat.{ℕ, _+_, _≤_, _<_}
 use mathlib.Core.Path.{_≡_, refl}
 use mathlib.Core.List.{List, [], _∷_, _++_, append-assoc}
 use native.Mathlib.Omega.{arith}
-use lib.ListN.{length, take, drop, length-append, length-drop}
-use lib.Seq.{take-at, drop-at, take-add, drop-drop, length-take-le}
+use lib.ListN.{length, getD, take, drop, length-append, length-drop}
+use lib.Seq.{take-at, drop-at, take-add, drop-drop, getD-drop, length-take-le}
 use Rattle.codec.specs.Bytes.{le, un, cap, Bytes}
 use Rattle.codec.specs.Layouts.{total, pack, unpack, Fit}
-use Rattle.codec.proofs.Bytes.{length-le, un-le, un-lt, bytes-take, bytes-drop, le-un-take}
+use Rattle.codec.proofs.Bytes.{length-le, un-le, un-lt, bytes-take, bytes-drop, le-un-take, un-same}
 
 pub length-pack : (ws vs : List ℕ) → length vs ≡ length ws → length (pack ws vs) ≡ total ws
 length-pack [] vs h = refl
@@ -35,13 +35,17 @@ fit-unpack (w ∷ ws) l k h =
     let lt : un (take w l) < cap w = rw (length-take-le w l (omega arith)) at (un-lt (take w l) (bytes-take w l h)) in
     (lt, fit-unpack ws (drop w l) (simp length-drop (omega arith)) (bytes-drop w l h))
 
--- the same from a place on, with each field's place a sum of widths: at a layout that is written out the offsets are numerals
-abbrev pub unpackAt : List ℕ → ℕ → ℕ → List ℕ → List ℕ
-unpackAt [] at offset l = []
-unpackAt (w ∷ ws) at offset l = un (take w (drop (at + offset) l)) ∷ unpackAt ws at (offset + w) l
+-- the values, each field's place a sum of widths: at a layout that is written out the places are numerals
+abbrev pub unpackAt : List ℕ → ℕ → List ℕ → List ℕ
+unpackAt [] at l = []
+unpackAt (w ∷ ws) at l = un (take w (drop at l)) ∷ unpackAt ws (at + w) l
 
-pub unpack-at : (ws : List ℕ) (at offset : ℕ) (l : List ℕ) → unpack ws (drop (at + offset) l) ≡ unpackAt ws at offset l
-unpack-at [] at offset l = refl
-unpack-at (w ∷ ws) at offset l =
-    let e : at + offset + w ≡ at + (offset + w) = omega arith in
-    rw (drop-drop w (at + offset) l, e, unpack-at ws at (offset + w) l)
+pub unpack-at : (ws : List ℕ) (at : ℕ) (l : List ℕ) → unpack ws (drop at l) ≡ unpackAt ws at l
+unpack-at [] at l = refl
+unpack-at (w ∷ ws) at l = rw (drop-drop w at l, unpack-at ws (at + w) l)
+
+-- the same bytes, 0 past the end, hold the same values
+pub unpack-same : (ws a b : List ℕ) → ((i : ℕ) → i < total ws → getD a i 0 ≡ getD b i 0) → unpack ws a ≡ unpack ws b
+unpack-same [] a b h = refl
+unpack-same (w ∷ ws) a b h =
+    rw (un-same w a b (λ i k. h i (omega arith)), unpack-same ws (drop w a) (drop w b) (λ i k. rw (getD-drop w a i 0, getD-drop w b i 0) (h (w + i) (omega arith))))

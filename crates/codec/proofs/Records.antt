@@ -1,40 +1,20 @@
 -- The round trips of records and bytes.
-use Prim.Native.Nat.{ℕ, zero, suc, _+_, _*_, _≤_}
-use mathlib.Core.Path.{_≡_, refl, sym, ap, _∙_}
+use Prim.Native.Nat.{ℕ, zero, suc, _*_, _≤_, _<_}
+use mathlib.Core.Path.{_≡_, refl, ap}
 use mathlib.Core.List.{List, [], _∷_, _++_, append-assoc}
-use native.Mathlib.Nat.{add-zero}
 use native.Mathlib.Omega.{arith}
-use lib.ListN.{length, take, drop, getD, length-append, length-drop, take-append-drop}
+use lib.ListN.{length, getD, take, drop, length-append, length-drop, take-append-drop}
 use lib.Seq.{drop-at}
-use Rattle.codec.specs.Bytes.{un, Bytes}
-use Rattle.codec.specs.Layouts.{unpack}
+use Rattle.codec.specs.Bytes.{Bytes}
 use Rattle.codec.specs.Records.{layout, fieldsOf, recordOf, InRange, encodeRecord, decodeRecord, encodeAll, decodeAll, AllInRange}
 use Rattle.codec.specs.declared.Record.{Record}
-use Rattle.codec.proofs.Bytes.{un-one, bytes-drop}
-use Rattle.codec.proofs.Layouts.{unpack-pack, pack-unpack, unpackAt, unpack-at}
+use Rattle.codec.proofs.Bytes.{bytes-drop}
+use Rattle.codec.proofs.Layouts.{unpack-pack, pack-unpack, unpack-same}
 
--- the fields of the record at a place
-pub decode-at : (l : List ℕ) (at : ℕ) →
-    decodeRecord (drop at l) ≡ record {
-      raw =
-          record {
-            kind = getD l (at + 0) 0;
-            node = getD l (at + 1) 0;
-            account = un (take 2 (drop (at + 2) l));
-            day = un (take 2 (drop (at + 4) l));
-            serial = un (take 4 (drop (at + 8) l));
-            amount = un (take 4 (drop (at + 12) l));
-            «named_serial» = un (take 4 (drop (at + 16) l));
-            a = un (take 2 (drop (at + 20) l));
-            b = getD l (at + 22) 0;
-            «named_node» = getD l (at + 23) 0;
-          };
-      next = un (take 2 (drop (at + 6) l));
-    }
+-- the same bytes, 0 past the end, are the same record
+pub decode-same : (a b : List ℕ) → ((i : ℕ) → i < 24 → getD a i 0 ≡ getD b i 0) → decodeRecord a ≡ decodeRecord b
 unfolding decodeRecord
-decode-at l at =
-    let whole : unpack layout (drop at l) ≡ unpackAt layout at 0 l = ap (λ (n : ℕ). unpack layout (drop n l)) (sym (add-zero at)) ∙ unpack-at layout at 0 l in
-    ap recordOf whole ∙ rw (un-one l (at + 0), un-one l (at + 1), un-one l (at + 22), un-one l (at + 23))
+decode-same a b h = ap recordOf (unpack-same layout a b h)
 
 pub length-encode : (r : Record) → length (encodeRecord r) ≡ 24
 unfolding encodeRecord

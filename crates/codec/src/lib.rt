@@ -4,10 +4,10 @@ use entries::Raw;
 use entries::Refusal;
 use entries::both;
 ghost use mathlib.Core.Path.{_≡_};
-ghost use Prim.Native.Nat.{_+_, _*_, _<_};
-ghost use lib.ListN.{getD, take, drop};
+ghost use Prim.Native.Nat.{_+_, _*_, _≤_};
+ghost use lib.ListN.{length, getD, take, drop};
 ghost use Rattle.codec.specs.Bytes.{un, eqList};
-ghost use Rattle.codec.specs.Records.{recordBytes, encodeRecord, recordIn};
+ghost use Rattle.codec.specs.Records.{recordBytes, encodeRecord, decodeRecord, recordIn};
 ghost use Rattle.codec.specs.Headers.{headerOf, countIn, fitsOf, checkOf};
 
 // The bytes of a record, and of the header.
@@ -29,73 +29,73 @@ fn byte_at(image: &[u8], at: usize) -> u8
     if at < image.len() { image[at] } else { 0 }
 }
 
-fn low(image: &[u8], at: usize) -> u16
-    ensures { λ r. ⌜ (r ≡ getD (now (image .entry)) at 0) × (r < 256) ⌝ }
+// Two bytes as a number, the low one first.
+fn joined(low: u8, high: u8) -> u16
+    ensures { λ r. ⌜ r ≡ low + 256 * high ⌝ }
 {
-    byte_at(image, at) as u16
+    low as u16 + 256 * high as u16
 }
 
-fn wide(image: &[u8], at: usize) -> u32
-    ensures { λ r. ⌜ (r ≡ getD (now (image .entry)) at 0) × (r < 256) ⌝ }
+// The number in two bytes from a place on, and in four.
+fn two(b: &[u8], at: usize) -> u16
+    requires { ⌜ at + 2 ≤ length (now b) ⌝ }
+    ensures { λ r. ⌜ r ≡ un (take 2 (drop at (now (b .entry)))) ⌝ }
 {
-    byte_at(image, at) as u32
+    joined(b[at], b[at + 1])
 }
 
-// The place of a record's field. Record 0 is the header.
-fn place(number: u16, offset: u16) -> usize
-    ensures { λ r. ⌜ r ≡ recordBytes * number + offset ⌝ }
+fn four(b: &[u8], at: usize) -> u32
+    requires { ⌜ at + 4 ≤ length (now b) ⌝ }
+    ensures { λ r. ⌜ r ≡ un (take 4 (drop at (now (b .entry)))) ⌝ }
 {
-    RECORD * number as usize + offset as usize
+    two(b, at) as u32 + 65536 * two(b, at + 2) as u32
 }
 
-fn u8_in(image: &[u8], number: u16, offset: u16) -> u8
-    ensures { λ r. ⌜ r ≡ getD (now (image .entry)) (recordBytes * number + offset) 0 ⌝ }
+// The record at the start of bytes.
+fn decode(b: &[u8]) -> Record
+    requires { ⌜ recordBytes ≤ length (now b) ⌝ }
+    ensures { λ r. ⌜ r ≡ decodeRecord (now (b .entry)) ⌝ }
 {
-    byte_at(image, place(number, offset))
-}
-
-fn u16_in(image: &[u8], number: u16, offset: u16) -> u16
-    ensures { λ r. ⌜ r ≡ un (take 2 (drop (recordBytes * number + offset) (now (image .entry)))) ⌝ }
-{
-    let at = place(number, offset);
-    low(image, at) + 256 * low(image, at + 1)
-}
-
-fn u32_in(image: &[u8], number: u16, offset: u16) -> u32
-    ensures { λ r. ⌜ r ≡ un (take 4 (drop (recordBytes * number + offset) (now (image .entry)))) ⌝ }
-{
-    let at = place(number, offset);
-    wide(image, at)
-        + 256 * (wide(image, at + 1) + 256 * (wide(image, at + 2) + 256 * wide(image, at + 3)))
+    let raw = Raw {
+        kind: b[0],
+        node: b[1],
+        account: two(b, 2),
+        day: two(b, 4),
+        serial: four(b, 8),
+        amount: four(b, 12),
+        named_serial: four(b, 16),
+        a: two(b, 20),
+        b: b[22],
+        named_node: b[23],
+    };
+    Record {
+        raw,
+        next: two(b, 6),
+    }
 }
 
 // The count in the header.
 pub fn count_in(image: &[u8]) -> u16
     ensures { λ r. ⌜ r ≡ countIn (now (image .entry)) ⌝ }
 {
-    u16_in(image, 0, 4)
+    joined(byte_at(image, 4), byte_at(image, 5))
 }
 
 // The record of a number, from 1. What the image is too short for is 0.
 pub fn record_in(image: &[u8], number: u16) -> Record
     ensures { λ r. ⌜ r ≡ recordIn (now (image .entry)) number ⌝ }
 {
-    let raw = Raw {
-        kind: u8_in(image, number, 0),
-        node: u8_in(image, number, 1),
-        account: u16_in(image, number, 2),
-        day: u16_in(image, number, 4),
-        serial: u32_in(image, number, 8),
-        amount: u32_in(image, number, 12),
-        named_serial: u32_in(image, number, 16),
-        a: u16_in(image, number, 20),
-        b: u8_in(image, number, 22),
-        named_node: u8_in(image, number, 23),
-    };
-    Record {
-        raw,
-        next: u16_in(image, number, 6),
+    let at = RECORD * number as usize;
+    if at + RECORD <= image.len() {
+        return decode(&image[at..]);
     }
+    let mut bytes = [0u8; RECORD];
+    let mut i = 0;
+    while i < RECORD {
+        bytes[i] = byte_at(image, at + i);
+        i += 1;
+    }
+    decode(&bytes)
 }
 
 // The bytes of a record.

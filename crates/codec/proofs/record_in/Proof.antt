@@ -1,59 +1,102 @@
-use Prim.Native.Nat.{_*_}
+use Prim.Native.Nat.{ℕ, _+_, _*_, _-_, _≤_, _<_}
+use mathlib.Core.Path.{_≡_, sym, ap, _∙_}
+use native.Mathlib.Omega.{arith}
 use denote.Ref.{now}
-use Rattle.codec.proofs.Records.{decode-at}
+use lib.ListN.{length, getD, drop, length-drop}
+use lib.Seq.{take-all, getD-drop, getD-set-same, getD-set-other}
+use borrow.Author.Count.{below-more}
+use Rattle.codec.specs.Records.{decodeRecord}
+use Rattle.codec.proofs.Records.{decode-same}
 use borrow.Author.Needs.{needs}
 use Rattle.codec.proofs.record_in.Statement.{statement}
 use Rattle.codec.proofs.record_in.Tie as tie
 
-u8-in-requires : tie.Need-u8-in-requires
-u8-in-requires c κs = search needs
+abbrev Inv-loop : tie.InvT-loop
+Inv-loop image number at bytes₀ i₀ bytes i = (i ≤ 24) × (length bytes ≡ 24) × ((k : ℕ) → k < i → getD bytes k 0 ≡ getD image (at + k) 0)
 
-u8-in-requires-2 : tie.Need-u8-in-requires-2
-u8-in-requires-2 c κs = search needs
+abbrev μ-loop : tie.MeasureT-loop
+μ-loop image number at bytes₀ i₀ bytes i = 24 - i
 
-u16-in-requires : tie.Need-u16-in-requires
-u16-in-requires c κs = search needs
+mul-at : tie.Need-mul-at Inv-loop μ-loop
+mul-at c = search needs
 
-u16-in-requires-2 : tie.Need-u16-in-requires-2
-u16-in-requires-2 c κs = search needs
+add-if1 : tie.Need-add-if1 Inv-loop μ-loop
+add-if1 c = search needs
 
-u32-in-requires : tie.Need-u32-in-requires
-u32-in-requires c κs = search needs
+sub-decode : tie.Need-sub-decode Inv-loop μ-loop
+sub-decode c = search needs
 
-u32-in-requires-2 : tie.Need-u32-in-requires-2
-u32-in-requires-2 c κs = search needs
+part-decode-start : tie.Need-part-decode-start Inv-loop μ-loop
+part-decode-start c = search needs
 
-u32-in-requires-3 : tie.Need-u32-in-requires-3
-u32-in-requires-3 c κs = search needs
+part-decode-end : tie.Need-part-decode-end Inv-loop μ-loop
+part-decode-end c = search needs
 
-u16-in-requires-3 : tie.Need-u16-in-requires-3
-u16-in-requires-3 c κs = search needs
+decode-requires : tie.Need-decode-requires Inv-loop μ-loop
+decode-requires c κs = search needs
 
-u8-in-requires-3 : tie.Need-u8-in-requires-3
-u8-in-requires-3 c κs = search needs
+returns : tie.Need-returns Inv-loop μ-loop
+returns c =
+    let l = now (c .before .before .before .before .args .image) in
+    let at = 24 * c .before .before .before .before .args .number in
+    c .decode .ensures ∙ ap decodeRecord (take-all (length l - at) (drop at l) (omega (arith, length-drop at l)))
 
-u8-in-requires-4 : tie.Need-u8-in-requires-4
-u8-in-requires-4 c κs = search needs
+loop-holds : tie.Need-loop-holds Inv-loop μ-loop
+loop-holds c = search needs
 
-u16-in-requires-4 : tie.Need-u16-in-requires-4
-u16-in-requires-4 c κs = search needs
+add-byte-at : tie.Need-add-byte-at Inv-loop μ-loop
+add-byte-at c = search needs
 
-returns : tie.Need-returns
-returns c = rw (decode-at (now (c .before .before .before .before .before .before .before .before .before .before .before .before .args .image)) (24 * c .before .before .before .before .before .before .before .before .before .before .before .before .args .number)) (simp (c .u16-in4 .ensures, c .before .u8-in4 .ensures, c .before .before .u8-in3 .ensures, c .before .before .before .u16-in3 .ensures, c .before .before .before .before .u32-in3 .ensures, c .before .before .before .before .before .u32-in2 .ensures, c .before .before .before .before .before .before .u32-in .ensures, c .before .before .before .before .before .before .before .u16-in2 .ensures, c .before .before .before .before .before .before .before .before .u16-in .ensures, c .before .before .before .before .before .before .before .before .before .u8-in2 .ensures, c .before .before .before .before .before .before .before .before .before .before .u8-in .ensures))
+byte-at-requires : tie.Need-byte-at-requires Inv-loop μ-loop
+byte-at-requires c κs = search needs
+
+array-write-bytes : tie.Need-array-write-bytes Inv-loop μ-loop
+array-write-bytes c = search needs
+
+add-i : tie.Need-add-i Inv-loop μ-loop
+add-i c = search needs
+
+loop-less : tie.Need-loop-less Inv-loop μ-loop
+loop-less c = search needs
+
+loop-again : tie.Need-loop-again Inv-loop μ-loop
+loop-again c =
+    let l = c .before .before .loop in
+    let room : l .i < length (l .bytes) = omega arith in
+    let here = getD-set-same (l .bytes) (l .i) _ 0 room ∙ c .byte-at .ensures in
+    (search needs, search needs, below-more _ (l .i) (λ k h. getD-set-other (l .bytes) (l .i) k _ 0 (λ e. omega arith) ∙ l .inv .2 k h) here)
+
+slice-aggregate-decode : tie.Need-slice-aggregate-decode Inv-loop μ-loop
+slice-aggregate-decode c = search needs
+
+decode-requires-2 : tie.Need-decode-requires-2 Inv-loop μ-loop
+decode-requires-2 c κs = search needs
+
+returns-2 : tie.Need-returns-2 Inv-loop μ-loop
+returns-2 c =
+    let l = c .before .before .before .loop in
+    c .decode2 .ensures ∙ decode-same (l .bytes) _ (λ k h. l .inv .2 k (omega arith) ∙ sym (getD-drop _ (now (c .before .before .before .before .before .before .args .image)) k 0))
 
 pub record-in-spec : {M : Type 1} → statement M
 record-in-spec =
     tie.close
     (tie.spec
-    u8-in-requires
-    u8-in-requires-2
-    u16-in-requires
-    u16-in-requires-2
-    u32-in-requires
-    u32-in-requires-2
-    u32-in-requires-3
-    u16-in-requires-3
-    u8-in-requires-3
-    u8-in-requires-4
-    u16-in-requires-4
-    returns)
+    Inv-loop
+    μ-loop
+    mul-at
+    add-if1
+    sub-decode
+    part-decode-start
+    part-decode-end
+    decode-requires
+    returns
+    loop-holds
+    add-byte-at
+    byte-at-requires
+    array-write-bytes
+    add-i
+    loop-less
+    loop-again
+    slice-aggregate-decode
+    decode-requires-2
+    returns-2)
