@@ -1,6 +1,7 @@
-// Writes to standard error what the load of a full image costs, in hundredths of the time of 1,024 copies of the book.
+// Writes to standard error what loads cost, in hundredths of the time of one copy of the book in the same run.
 use book::Book;
 use codec::LONGEST;
+use codec::header;
 use image::LoadAnswer;
 use image::load;
 use timing::copying;
@@ -27,14 +28,25 @@ fn main() {
     // A full image: 1,024 payments to one account.
     let mut image = [0u8; LONGEST];
     let n = io::read_full(0, &mut image);
-    let copy = copying(Book::fresh(), 102400);
-    let start = now();
-    let accepted = loads(&image[..n], 100);
+    let empty = header(0);
+    let copy = copying(Book::fresh(), 1000);
+    let mut start = now();
+    let full = loads(&image[..n], 1000);
+    let full_time = since(start);
+    start = now();
+    let fresh = loads(&empty, 1000);
+    let fresh_time = since(start);
+    report(b"one copy of the book, nanoseconds: ", copy, 100);
     report(
-        b"100 loads of a full image, hundredths of 102,400 copies of the book: ",
-        since(start),
+        b"a load of an empty image, hundredths of a copy: ",
+        fresh_time,
         copy,
     );
-    io::print_decimal(1, accepted as u64);
+    report(
+        b"a load of 1,024 payments, hundredths of a copy: ",
+        full_time,
+        copy,
+    );
+    io::print_decimal(1, full as u64 + fresh as u64);
     io::write_all(1, b"\n");
 }

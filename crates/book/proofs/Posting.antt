@@ -51,36 +51,41 @@ room b r x e =
     let rows = silent _ (entryRows r (kindOf (r .kind)) (b .count) (lastOf (b .last) (r .node))) early .1 in
     leb-false entriesMost (b .count) (rows .1 .1 .1 .1 .1 .1 .0)
 
--- what an accepted entry names stands in the array
-abbrev NamesInside : Outcome → Type 0
-NamesInside (Refused n) = Unit {0}
-NamesInside (Accepted c) = Inside (c .names)
+-- what an accepted entry names is what the search found
+abbrev NamesFound : Found → Outcome → Type 0
+NamesFound f (Refused n) = Unit {0}
+NamesFound f (Accepted c) = (i : ℕ) → c .names ≡ At i → f ≡ At i
 
-effect-inside : (r : Raw) (k : Kind) (acc : Account) (f : Found) (d : Data) → Inside f → NamesInside (effectOf r k acc f d)
+names-nothing : (f : Found) (i : ℕ) → Nothing ≡ At i → f ≡ At i
+names-nothing f i e = let z : _≡_ {A = ℕ} 0 1 = cc in absurd (omega arith)
+
+effect-found : (r : Raw) (k : Kind) (acc : Account) (f : Found) (d : Data) → NamesFound f (effectOf r k acc f d)
 unfolding effectOf addedCustomerOf expiryOf correctionOf contributionOf billOf paymentOf depositOf depositReturnOf
-effect-inside r kind.Unknown acc f d i = tt
-effect-inside r kind.Contribution acc f d i = tt
-effect-inside r kind.AddedCustomer acc (At n) d i = i
-effect-inside r kind.AddedCustomer acc Nothing d i = tt
-effect-inside r kind.Bill acc f d i = tt
-effect-inside r kind.Payment acc f d i = tt
-effect-inside r kind.Deposit acc f d i = tt
-effect-inside r kind.DepositReturn acc f d i = tt
-effect-inside r kind.Expiry acc (At n) d i = i
-effect-inside r kind.Expiry acc Nothing d i = tt
-effect-inside r kind.Correction acc (At n) d i = i
-effect-inside r kind.Correction acc Nothing d i = tt
+effect-found r kind.Unknown acc f d = tt
+effect-found r kind.Contribution acc f d = names-nothing f
+effect-found r kind.AddedCustomer acc (At n) d = λ i e. e
+effect-found r kind.AddedCustomer acc Nothing d = tt
+effect-found r kind.Bill acc f d = names-nothing f
+effect-found r kind.Payment acc f d = names-nothing f
+effect-found r kind.Deposit acc f d = names-nothing f
+effect-found r kind.DepositReturn acc f d = names-nothing f
+effect-found r kind.Expiry acc (At n) d = λ i e. e
+effect-found r kind.Expiry acc Nothing d = tt
+effect-found r kind.Correction acc (At n) d = λ i e. e
+effect-found r kind.Correction acc Nothing d = tt
 
-lookup-inside : (b : Book) (r : Raw) → Inside (lookupOf b r)
-unfolding lookupOf
-lookup-inside b r = find-inside entriesMost (b .entries) r (startOf (kindOf (r .kind)) (accountAt b (r .account) .newest))
-
-pub names-inside : (b : Book) (r : Raw) (x : Change) (i : ℕ) → decisionOf b r ≡ Accepted x → x .names ≡ At i → i < entriesMost
+pub names-found : (b : Book) (r : Raw) (x : Change) (i : ℕ) → decisionOf b r ≡ Accepted x → x .names ≡ At i → lookupOf b r ≡ At i
 unfolding decisionOf outcomeOf
-names-inside b r x i e n =
+names-found b r x i e n =
     let effect = decided-passed _ _ x e .1 in
-    let inside : NamesInside (Accepted x) = rw effect at (effect-inside r (kindOf (r .kind)) (accountAt b (r .account)) (lookupOf b r) (namedAt b r .«data») (lookup-inside b r)) in
-    rw n at inside
+    let found : NamesFound (lookupOf b r) (Accepted x) = rw effect at (effect-found r (kindOf (r .kind)) (accountAt b (r .account)) (lookupOf b r) (namedAt b r .«data»)) in
+    found i n
+
+-- and it stands in the array
+pub names-inside : (b : Book) (r : Raw) (x : Change) (i : ℕ) → decisionOf b r ≡ Accepted x → x .names ≡ At i → i < entriesMost
+unfolding lookupOf
+names-inside b r x i e n =
+    rw (names-found b r x i e n) at (find-inside entriesMost (b .entries) r (startOf (kindOf (r .kind)) (accountAt b (r .account) .newest)))
 
 pub post-refused : (b : Book) (r : Raw) (n : Refusal) → decisionOf b r ≡ Refused n →
     postOf b r ≡ record { book = b; reply = replyOf (answer.Refused n) }
@@ -88,14 +93,14 @@ unfolding postOf bookAfter answerOf
 post-refused b r n e = simp e
 
 -- what the stores of an accepted entry make of the book
-pub post-accepted : (b : Book) (r : Raw) (x : Change) (o : Outcome) (a n : ℕ) (acc : Account) (new w : Entry) (es : List Entry) (l : Serials) (ans : Answer) →
+pub post-accepted : (b : Book) (r : Raw) (x : Change) (o : Outcome) (a n : ℕ) (acc : Account) (new w : Entry) (f : Found) (l : Serials) (ans : Answer) →
     o ≡ decisionOf b r → o ≡ Accepted x → a ≡ slotOf (r .account) → n ≡ b .count + 1 → acc ≡ numberedOf (x .account) n →
     new ≡ entryOf r (getD (b .accounts) a noAccount .newest) (x .«data») → w ≡ withOf (namedAt b r) (x .named) →
-    es ≡ rewritten (x .names) w (set (b .entries) (b .count) new) → l ≡ afterOf (b .last) r → ans ≡ answerOf o n →
-    record { book = record { accounts = set (b .accounts) a acc; entries = es; count = n; last = l }; reply = replyOf ans } ≡ postOf b r
+    x .names ≡ f → l ≡ afterOf (b .last) r → ans ≡ answerOf o n →
+    record { book = record { accounts = set (b .accounts) a acc; entries = rewritten f w (set (b .entries) (b .count) new); count = n; last = l }; reply = replyOf ans } ≡ postOf b r
 unfolding postOf bookAfter storedOf
-post-accepted b r x o a n acc new w es l ans decided accepted slot number numbered entry with entries after answered =
-    rw (answered, after, entries, with, entry, numbered, number, slot, ← decided, accepted) refl
+post-accepted b r x o a n acc new w f l ans decided accepted slot number numbered entry with names after answered =
+    rw (answered, after, ← names, with, entry, numbered, number, slot, ← decided, accepted) refl
 
 -- ---- lists of postings
 

@@ -21,6 +21,10 @@ slotOf account = cond (eqb account 0) 0 (cond (ltb accountsMost account) 0 (acco
 unfoldable pub endsOf : ℕ → Bool
 endsOf at = eqb at 0 || ltb entriesMost at
 
+-- the place of the entry at a link; 0 where the chain ends
+unfoldable pub placeOf : ℕ → ℕ
+placeOf at = cond (endsOf at) 0 (at - 1)
+
 -- an account's chain begins at its newest entry; a kind that names nothing searches nothing
 unfoldable pub startOf : Kind → ℕ → ℕ
 startOf k newest = cond (namesOf k) newest 0

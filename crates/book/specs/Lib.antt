@@ -1,5 +1,6 @@
 pub mod Fresh
 pub mod Serials
 pub mod Chain
+pub mod Search
 pub mod Refusals
 pub mod Posting

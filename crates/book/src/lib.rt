@@ -15,9 +15,11 @@ use rules::Outcome;
 use rules::check_state;
 use rules::effect;
 ghost use mathlib.Core.Path.{_≡_};
+ghost use Prim.Native.Nat.{_-_};
 ghost use Rattle.book.specs.Fresh.{freshBook};
 ghost use Rattle.book.specs.Serials.{lastOf, afterOf};
-ghost use Rattle.book.specs.Chain.{slotOf, endsOf, startOf, walksOf};
+ghost use Rattle.book.specs.Chain.{slotOf, endsOf, placeOf, startOf};
+ghost use Rattle.book.specs.Search.{searchOf, goesOnOf, pastOf, soughtOf, soughtEntry};
 ghost use Rattle.book.specs.Refusals.{checkEntryOf, outcomeOf};
 ghost use Rattle.book.specs.Posting.{resultOf, postOf};
 
@@ -29,10 +31,20 @@ pub struct Serials {
 
 pub struct Book {
     pub accounts: [Account; Book::ACCOUNTS],
+    // Between the arrays, since the compiler then fills each of a fresh book's in fewer copies.
+    pub last: Serials,
     pub entries: [Entry; Book::ENTRIES],
     // How many entries there are: they stand at the places before this one.
     pub count: u16,
-    pub last: Serials,
+}
+
+// A search along an account's chain for the entry that another names.
+pub struct Search {
+    // The number of the entry that it stands at.
+    pub at: u16,
+    // How many links are left.
+    pub left: u16,
+    pub found: bool,
 }
 
 // The next book beside the answer.
@@ -87,18 +99,85 @@ pub fn ends(at: u16) -> bool
     Book::ENTRIES < at as usize
 }
 
-// Where the search for a named entry begins: at 0, the end of every chain, where the kind names nothing.
+// Where a search begins: at 0, the end of every chain, where the kind names nothing.
 fn start(kind: Kind, newest: u16) -> u16
     ensures { λ r. ⌜ r ≡ startOf kind newest ⌝ }
 {
     if kind.names() { newest } else { 0 }
 }
 
-// Whether a search at a link with some links left goes on.
-fn walks(at: u16, left: u16) -> bool
-    ensures { λ r. ⌜ r ≡ walksOf at left ⌝ }
+fn less_one(n: u16) -> u16
+    ensures { λ r. ⌜ r ≡ n - 1 ⌝ }
 {
-    both(0 < left, !ends(at))
+    if n == 0 { 0 } else { n - 1 }
+}
+
+impl Search {
+    // Along the chain of an account whose newest entry has this number.
+    pub fn of(raw: Raw, newest: u16) -> Search
+        ensures { λ r. ⌜ r ≡ searchOf raw newest ⌝ }
+    {
+        let at = start(Kind::of(raw.kind), newest);
+        Search {
+            at,
+            left: Book::ENTRIES as u16,
+            found: false,
+        }
+    }
+
+    pub fn goes_on(self) -> bool
+        ensures { λ r. ⌜ r ≡ goesOnOf self ⌝ }
+    {
+        both(!self.found, both(0 < self.left, !ends(self.at)))
+    }
+
+    // The place of the entry that it stands at, and 0 at the end of the chain.
+    pub fn place(self) -> usize
+        ensures { λ r. ⌜ r ≡ placeOf (self .at) ⌝ }
+    {
+        if ends(self.at) {
+            return 0;
+        }
+        less_one(self.at) as usize
+    }
+
+    // After a look at the entry that it stands at.
+    pub fn past(self, raw: Raw, entry: Entry) -> Search
+        ensures { λ r. ⌜ r ≡ pastOf self raw entry ⌝ }
+    {
+        let left = less_one(self.left);
+        if raw.points_at(entry) {
+            return Search {
+                at: self.at,
+                left,
+                found: true,
+            };
+        }
+        Search {
+            at: entry.next,
+            left,
+            found: false,
+        }
+    }
+
+    pub fn lookup(self) -> Found
+        ensures { λ r. ⌜ r ≡ soughtOf self ⌝ }
+    {
+        if self.found {
+            return Found::At(self.place());
+        }
+        Found::Nothing
+    }
+
+    // The entry that it stands at where it has found one, and else an unused one.
+    pub fn named(self, entry: Entry) -> Entry
+        ensures { λ r. ⌜ r ≡ soughtEntry self entry ⌝ }
+    {
+        if self.found {
+            return entry;
+        }
+        Entry::unused()
+    }
 }
 
 // 1 to 7: the refusals that the entry, its node's last serial and the number of entries decide.
@@ -118,24 +197,25 @@ fn check_entry(raw: Raw, kind: Kind, count: u16, last: u32) -> Check
         .rule(Book::ENTRIES <= count as usize, Refusal::BookFull)
 }
 
-// The refusal of an entry, or what it does. `named` is the entry at `lookup`, or an unused one.
-fn outcome(
+// The refusal of an entry, or what it does, after the search for the entry that it names. `entry` is the one that the search stands at.
+pub fn outcome(
     raw: Raw,
     count: u16,
-    last: u32,
+    last: Serials,
     account: Account,
-    lookup: Found,
-    named: Entry,
+    search: Search,
+    entry: Entry,
 ) -> Outcome
-    ensures { λ r. ⌜ r ≡ outcomeOf raw count last account lookup named ⌝ }
+    ensures { λ r. ⌜ r ≡ outcomeOf raw count (lastOf last (raw .node)) account (soughtOf search) (soughtEntry search entry) ⌝ }
 {
     let kind = Kind::of(raw.kind);
-    let early = check_entry(raw, kind, count, last);
+    let named = search.named(entry);
+    let early = check_entry(raw, kind, count, last.of(raw.node));
     if let Check::Refused(refusal) = check_state(early, raw, kind, account, named) {
         return Outcome::Refused(refusal);
     }
     let what = named.data;
-    effect(raw, kind, account, lookup, what)
+    effect(raw, kind, account, search.lookup(), what)
 }
 
 impl Book {
@@ -168,34 +248,25 @@ impl Book {
         let last = self.last;
         let a = slot(raw.account);
         let account = self.accounts[a];
-        let mut at = start(Kind::of(raw.kind), account.newest);
-        let mut lookup = Found::Nothing;
-        let mut named = Entry::unused();
-        let mut left = Book::ENTRIES as u16;
-        while walks(at, left) {
-            let i = at as usize - 1;
+        let mut search = Search::of(raw, account.newest);
+        while search.goes_on() {
+            let i = search.place();
             let entry = self.entries[i];
-            at = entry.next;
-            left -= 1;
-            if raw.points_at(entry) {
-                lookup = Found::At(i);
-                named = entry;
-                left = 0;
-            }
+            search = search.past(raw, entry);
         }
-        let outcome = outcome(raw, count, last.of(raw.node), account, lookup, named);
+        let place = search.place();
+        let entry = self.entries[place];
+        let outcome = outcome(raw, count, last, account, search, entry);
         let number = one_more(count);
         let answer = outcome.answer(number);
         if let Outcome::Accepted(change) = outcome {
-            let data = change.data;
             let names = change.names;
-            let changed = change.named;
-            self.entries[count as usize] = raw.entry(account.newest, data);
+            self.entries[count as usize] = change.entry(raw, account.newest);
             self.accounts[a] = change.account.numbered(number);
             self.count = number;
             self.last = last.after(raw);
             if let Found::At(i) = names {
-                self.entries[i] = named.with(changed);
+                self.entries[i] = change.rewritten(entry);
             }
         }
         Posted { book: self, answer }

@@ -1,62 +1,53 @@
--- Laws of a run, entry by entry.
-use Prim.Native.Nat.{ℕ, suc, _+_, _*_, _-_, _/_, _<_, _≤_}
+-- Laws of a run of entries.
+use Prim.Native.Nat.{ℕ, suc, _+_, _/_, _≤_}
+use mathlib.Core.Bool.{false}
 use mathlib.Core.Path.{_≡_, refl, sym, ap, _∙_}
 use mathlib.Core.List.{List, [], _∷_, _++_, map, append-assoc, append-nil}
 use native.Mathlib.Numerals.{add-one}
 use native.Mathlib.Omega.{arith}
-use lib.ListN.{length, take, drop, set, length-set, length-map, length-drop, take-append-drop}
-use lib.Seq.{drop-drop, take-all, take-suc-set, drop-set-lt}
+use lib.ListN.{length, take, drop, set, length-set, length-map, take-append-drop}
+use lib.Seq.{take-suc-set, drop-set-lt}
 use Rattle.entries.specs.declared.raw.Raw.{Raw}
-use Rattle.codec.specs.Records.{decodeRecord, recordIn, decodeAll}
+use Rattle.codec.specs.Records.{decodeAll}
+use Rattle.codec.specs.declared.Record.{Record}
 use Rattle.codec.proofs.Records.{length-decodeAll}
 use Rattle.book.specs.Posting.{postOf, postsOf}
 use Rattle.book.specs.declared.Book.{Book}
 use Rattle.carry.specs.Carry.{refusalsOf}
+use Rattle.image.specs.Loads.{answeredOf, loadedReply, wholeOf}
+use Rattle.image.specs.Replays.{listedIn, replayOf}
 use Rattle.image.specs.Rounds.{rawIn}
-use Rattle.contribution_book.specs.Carries.{runOf, putAll}
+use Rattle.image.specs.declared.loads.Loaded.{Loaded}
+use Rattle.image.specs.declared.loads.LoadAnswer.{LoadAnswer}
+use Rattle.image.specs.declared.loads.LoadAnswer.the-variants.{Accepted, Refused}
+use Rattle.contribution_book.specs.Carries.{runOf, nextOf, putAll}
 
--- the entry at a place of a run
-abbrev pub entryAt : List ℕ → ℕ → Raw
-entryAt run i = decodeRecord (drop (24 * i) run) .raw
+-- a run is posted as the records of an image are
+replay-run : (rs : List Record) (b : Book) (l : List ℕ) (i : ℕ) →
+    replayOf false rs b l i ≡ record { loaded = wholeOf (postsOf b (map rawIn rs)); results = putAll l i (refusalsOf b (map rawIn rs)) }
+unfolding replayOf postsOf refusalsOf putAll
+replay-run [] b l i = refl
+replay-run (r ∷ rs) b l i = replay-run rs (postOf b (r .raw) .book) (set l i (postOf b (r .raw) .reply .refusal)) (i + 1)
 
--- the record of the part of a run that begins there
-pub entry-part : (run : List ℕ) (i : ℕ) → recordIn (take (length run - 24 * i) (drop (24 * i) run)) 0 .raw ≡ entryAt run i
-entry-part run i =
-    ap (λ (l : List ℕ). decodeRecord l .raw) (take-all (length run - 24 * i) (drop (24 * i) run) (simp length-drop (omega arith)))
-
--- what is left of a run after i entries
-abbrev pub restOf : List ℕ → ℕ → List Raw
-restOf run i = map rawIn (decodeAll (length run / 24 - i) (drop (24 * i) run))
-
-pub rest-start : (run : List ℕ) → runOf run ≡ restOf run 0
-unfolding runOf
-rest-start run = let z : length run / 24 - 0 ≡ length run / 24 = omega arith in rw z refl
-
-pub rest-step : (run : List ℕ) (i : ℕ) → i < length run / 24 → restOf run i ≡ entryAt run i ∷ restOf run (i + 1)
-rest-step run i h =
-    let d : 24 * i + 24 ≡ 24 * (i + 1) = omega arith in
-    rw (left (length run / 24) i h, drop-drop 24 (24 * i) run, d)
+loaded-book : (l : Loaded) → loadedReply l .book ≡ l .book
+unfolding loadedReply
+loaded-book l = by (l .answer)
   where
-    left : (n i : ℕ) → i < n → n - i ≡ suc (n - (i + 1))
-    left n i h = omega arith
+    by : (a : LoadAnswer) → answeredOf (l .book) a .book ≡ l .book
+    by Accepted = refl
+    by (Refused n i) = refl
 
-pub rest-end : (run : List ℕ) → restOf run (length run / 24) ≡ []
-rest-end run = let z : length run / 24 - length run / 24 ≡ 0 = omega arith in rw z
+pub run-posted : (b : Book) (run results m : List ℕ) (l : Loaded) →
+    record { loaded = loadedReply l; results = m } ≡ replayOf false (listedIn run) b results 0 →
+    (l .book ≡ nextOf b run) × (m ≡ putAll results 0 (refusalsOf b (runOf run)))
+unfolding runOf
+run-posted b run results m l e =
+    let posted = e ∙ replay-run (listedIn run) b results 0 in
+    (sym (loaded-book l) ∙ ap (λ p. p .loaded .book) posted, ap (λ p. p .results) posted)
 
 pub length-run : (run : List ℕ) → length (runOf run) ≡ length run / 24
 unfolding runOf
 length-run run = length-map (decodeAll (length run / 24) run) rawIn ∙ length-decodeAll (length run / 24) run
-
-pub posts-step : (b next : Book) (run : List ℕ) (i : ℕ) → i < length run / 24 → next ≡ postOf b (entryAt run i) .book →
-    postsOf b (restOf run i) ≡ postsOf next (restOf run (i + 1))
-unfolding postsOf
-posts-step b next run i h e = rw (rest-step run i h, e)
-
-pub results-step : (b next : Book) (run l : List ℕ) (i n : ℕ) → i < length run / 24 → next ≡ postOf b (entryAt run i) .book →
-    n ≡ postOf b (entryAt run i) .reply .refusal →
-    putAll l i (refusalsOf b (restOf run i)) ≡ putAll (set l i n) (i + 1) (refusalsOf next (restOf run (i + 1)))
-unfolding refusalsOf putAll
-results-step b next run l i n h e r = rw (rest-step run i h, e, r)
 
 length-refusals : (b : Book) (rs : List Raw) → length (refusalsOf b rs) ≡ length rs
 unfolding refusalsOf

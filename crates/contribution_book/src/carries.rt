@@ -1,25 +1,21 @@
 // A carry-over of a run of entries into an image.
 use book::Book;
-use book::Posted;
 use codec::RECORD;
-use codec::record_in;
 use entries::Refusal;
 use image::LoadAnswer;
 use image::Saved;
 use image::load;
+use image::replay;
 use image::save;
 use image::size;
-use rules::Answer;
 ghost use mathlib.Core.Path.{_≡_};
 ghost use Prim.Native.Nat.{_+_, _≤_, min};
-ghost use lib.ListN.{set};
 ghost use lib.Dec.{ltb};
 ghost use Rattle.entries.specs.Refusals.{refusalNumber};
 ghost use Rattle.book.specs.Fresh.{entriesMost};
-ghost use Rattle.carry.specs.Carry.{refusalsOf};
 ghost use Rattle.image.specs.Saves.{bytesOf};
 ghost use Rattle.image.specs.Loads.{loadOf};
-ghost use Rattle.contribution_book.specs.Carries.{runOf, putAll, nextOf, refusedCarry, carryInto, carryImage};
+ghost use Rattle.contribution_book.specs.Carries.{nextOf, refusedCarry, carryInto, carryImage};
 
 #[repr(C)]
 pub struct CarryGiven {
@@ -39,38 +35,6 @@ fn refused(refusal: Refusal, record: u16) -> CarryGiven
         record,
         bytes: 0,
     }
-}
-
-// Writes a result at its place, where the list has it.
-fn mark(results: &mut [u8], i: usize, result: u8)
-    ensures { λ _. ⌜ now (results .exit) ≡ set (now (results .entry)) i result ⌝ }
-{
-    if i < results.len() {
-        results[i] = result;
-    }
-}
-
-// Posts each entry of a run in turn, and writes its refusal number, or 0, at its place, where the list has it.
-fn posts(book: Book, run: &[u8], results: &mut [u8]) -> Book
-    ensures { λ r. ⌜ (r ≡ nextOf book (now (run .entry))) × (now (results .exit) ≡ putAll (now (results .entry)) 0 (refusalsOf book (runOf (now (run .entry))))) ⌝ }
-{
-    let count = run.len() / RECORD;
-    // The answer before the first posting is not read.
-    let mut posted = Posted {
-        book,
-        answer: Answer::Refused(Refusal::NextIndex),
-    };
-    let mut i: usize = 0;
-    while i < count {
-        let at = RECORD * i;
-        let record = record_in(&run[at..], 0);
-        let raw = record.raw;
-        posted = posted.book.post(raw);
-        let answer = posted.answer;
-        mark(results, i, answer.reply().refusal);
-        i += 1;
-    }
-    posted.book
 }
 
 // The most entries that an image can have after a run of so many.
@@ -96,8 +60,8 @@ fn too_short(book: Book, run: &[u8], length: usize) -> bool
     }
     // The results are not read.
     let mut unused = [0u8; 1];
-    let next = posts(book, run, &mut unused);
-    let size = size(next.count);
+    let replayed = replay(book, run, false, &mut unused);
+    let size = size(replayed.book.count);
     length < RECORD * (size as usize + 1)
 }
 
@@ -114,7 +78,8 @@ fn carry_into(book: Book, run: &[u8], results: &mut [u8], output: &mut [u8]) -> 
     if too_short(book, run, output.len()) {
         return refused(Refusal::BufferShort, 0);
     }
-    let next = posts(book, run, results);
+    let replayed = replay(book, run, false, results);
+    let next = replayed.book;
     match save(next, output) {
         Saved::Length(bytes) => CarryGiven {
             refusal: 0,

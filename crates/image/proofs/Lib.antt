@@ -4,5 +4,6 @@ pub mod Loading
 pub mod Given
 pub mod Step
 pub mod Trips
+pub mod Replays
 pub mod Ranges
 pub mod Again

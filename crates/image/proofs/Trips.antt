@@ -64,7 +64,7 @@ good-fresh =
 -- ---- records one after another
 
 -- a record that does not stop a load was accepted, and its next index is its account's previous entry
-stop-none : (b : Book) (r : Record) → stopOf b r ≡ 0 → (postOf b (r .raw) .reply .refusal ≡ 0) × (r .next ≡ accountAt b (r .raw .account) .newest)
+pub stop-none : (b : Book) (r : Record) → stopOf b r ≡ 0 → (postOf b (r .raw) .reply .refusal ≡ 0) × (r .next ≡ accountAt b (r .raw .account) .newest)
 unfolding stopOf
 stop-none b r = by (eqb (postOf b (r .raw) .reply .refusal) 0) (eqb (r .next) (accountAt b (r .raw .account) .newest)) refl refl
   where

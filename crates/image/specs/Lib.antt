@@ -1,4 +1,5 @@
 pub mod Raws
 pub mod Saves
 pub mod Loads
+pub mod Replays
 pub mod Rounds

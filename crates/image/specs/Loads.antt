@@ -1,15 +1,13 @@
 -- A load.
 use Prim.Native.Nat.{ℕ, _+_}
-use mathlib.Core.Bool.{not, cond}
+use mathlib.Core.Bool.{cond}
 use mathlib.Core.List.{List, [], _∷_}
 use lib.ListN.{drop}
 use lib.Dec.{eqb}
-use Rattle.entries.specs.Refusals.{refusalNumber, ruleOf}
+use Rattle.entries.specs.Refusals.{refusalNumber}
 use Rattle.entries.specs.declared.refusals.Refusal.the-variants as no
 use Rattle.entries.specs.declared.refusals.Check.{Check}
 use Rattle.entries.specs.declared.refusals.Check.the-variants as check
-use Rattle.rules.specs.declared.answers.Answer.{Answer}
-use Rattle.rules.specs.declared.answers.Answer.the-variants as answer
 use Rattle.codec.specs.Records.{recordBytes, decodeAll}
 use Rattle.codec.specs.Headers.{countIn, checkOf}
 use Rattle.codec.specs.declared.Record.{Record}
@@ -40,12 +38,6 @@ wholeOf b = record { book = b; refusal = 0; faulty = 0 }
 -- a refused load gives a fresh book
 abbrev pub failedOf : ℕ → ℕ → LoadReply
 failedOf n i = record { book = freshBook; refusal = n; faulty = i }
-
--- what the code decides of a record, by the answer of its posting, its next index and its account's newest entry;
--- no promise of a call cites it
-unfoldable pub verdictOf : Answer → ℕ → ℕ → Check
-verdictOf (answer.Refused n) next newest = check.Refused n
-verdictOf (answer.Accepted number amounts) next newest = ruleOf check.Passed (not (eqb next newest)) no.NextIndex
 
 -- the refusal of a record, or 0: by 1 to 16 as posted, and then
 -- 20: a record's next index is not its account's previous entry

@@ -6,6 +6,7 @@ mod saves;
 pub use loads::LoadAnswer;
 pub use loads::Loaded;
 pub use loads::load;
+pub use loads::replay;
 pub use rounds::reload;
 pub use rounds::resave;
 pub use saves::Saved;

@@ -1,16 +1,21 @@
-// A load.
+// A load, and the records that it and a carry-over post.
 use book::Book;
-use book::Posted;
+use book::Search;
+use book::outcome;
 use book::slot;
+use codec::RECORD;
 use codec::check;
-use codec::count_in;
 use codec::record_in;
 use entries::Check;
 use entries::Refusal;
-use rules::Answer;
+use entries::one_more;
+use rules::Found;
+use rules::Outcome;
 ghost use mathlib.Core.Path.{_≡_};
+ghost use lib.ListN.{set};
 ghost use Rattle.entries.specs.Refusals.{refusalNumber};
-ghost use Rattle.image.specs.Loads.{verdictOf, loadedReply, failedOf, loadOf};
+ghost use Rattle.image.specs.Loads.{loadedReply, failedOf, loadOf};
+ghost use Rattle.image.specs.Replays.{endOf, listedIn, replayOf};
 
 pub enum LoadAnswer {
     Accepted,
@@ -23,19 +28,6 @@ pub struct Loaded {
     pub answer: LoadAnswer,
 }
 
-// A record by 1 to 16 as its posting was answered, and then by 20. `newest` is its account's previous entry.
-fn verdict(answer: Answer, next: u16, newest: u16) -> Check
-    ensures { λ r. ⌜ r ≡ verdictOf answer next newest ⌝ }
-{
-    match answer {
-        Answer::Refused(refusal) => Check::Refused(refusal),
-        Answer::Accepted {
-            number: _,
-            amounts: _,
-        } => Check::Passed.rule(next != newest, Refusal::NextIndex),
-    }
-}
-
 // A refused load gives a fresh book.
 pub fn failed(refusal: Refusal, record: u16) -> Loaded
     ensures { λ r. ⌜ loadedReply r ≡ failedOf (refusalNumber refusal) «record» ⌝ }
@@ -46,6 +38,77 @@ pub fn failed(refusal: Refusal, record: u16) -> Loaded
     }
 }
 
+// What ends an image at a record: its refusal by 1 to 16 as it is posted, or by 20, where `newest` is its account's previous entry.
+// Nothing ends a run of entries.
+fn stop(outcome: Outcome, image: bool, next: u16, newest: u16) -> Check
+    ensures { λ r. ⌜ r ≡ endOf outcome image next newest ⌝ }
+{
+    if !image {
+        return Check::Passed;
+    }
+    match outcome {
+        Outcome::Refused(refusal) => Check::Refused(refusal),
+        Outcome::Accepted(_) => Check::Passed.rule(next != newest, Refusal::NextIndex),
+    }
+}
+
+// Writes a result at its place, where the list has it.
+fn mark(results: &mut [u8], i: usize, result: u8)
+    ensures { λ _. ⌜ now (results .exit) ≡ set (now (results .entry)) i result ⌝ }
+{
+    if i < results.len() {
+        results[i] = result;
+    }
+}
+
+// Posts the records of an image, or a run of entries, in turn, and writes the refusal number of each posting, or 0, at its place in
+// the results, where the list has it. The first record of an image that is refused ends it. The postings are made in place: a call
+// on the book would copy it.
+pub fn replay(mut book: Book, records: &[u8], image: bool, results: &mut [u8]) -> Loaded
+    ensures { λ r. ⌜ (record { loaded = loadedReply r; results = now (results .exit) }) ≡ replayOf image (listedIn (now (records .entry))) book (now (results .entry)) 0 ⌝ }
+{
+    let all = records.len() / RECORD;
+    let mut i: usize = 0;
+    while i < all {
+        let at = RECORD * i;
+        let record = record_in(&records[at..], 0);
+        let raw = record.raw;
+        let count = book.count;
+        let last = book.last;
+        let a = slot(raw.account);
+        let account = book.accounts[a];
+        let mut search = Search::of(raw, account.newest);
+        while search.goes_on() {
+            let j = search.place();
+            let entry = book.entries[j];
+            search = search.past(raw, entry);
+        }
+        let place = search.place();
+        let entry = book.entries[place];
+        let outcome = outcome(raw, count, last, account, search, entry);
+        let number = one_more(count);
+        mark(results, i, outcome.refusal());
+        i += 1;
+        if let Check::Refused(refusal) = stop(outcome, image, record.next, account.newest) {
+            return failed(refusal, number);
+        }
+        if let Outcome::Accepted(change) = outcome {
+            let names = change.names;
+            book.entries[count as usize] = change.entry(raw, account.newest);
+            book.accounts[a] = change.account.numbered(number);
+            book.count = number;
+            book.last = last.after(raw);
+            if let Found::At(j) = names {
+                book.entries[j] = change.rewritten(entry);
+            }
+        }
+    }
+    Loaded {
+        book,
+        answer: LoadAnswer::Accepted,
+    }
+}
+
 // The book that an image holds, or a fresh one.
 pub fn load(image: &[u8]) -> Loaded
     ensures { λ r. ⌜ loadedReply r ≡ loadOf (now (image .entry)) ⌝ }
@@ -53,30 +116,7 @@ pub fn load(image: &[u8]) -> Loaded
     if let Check::Refused(refusal) = check(image) {
         return failed(refusal, 0);
     }
-    let count = count_in(image);
-    // The answer before the first posting is not read.
-    let mut posted = Posted {
-        book: Book::fresh(),
-        answer: Answer::Refused(Refusal::NextIndex),
-    };
-    let mut i: u16 = 0;
-    while i < count {
-        let number = i + 1;
-        let record = record_in(image, number);
-        let raw = record.raw;
-        let accounts = posted.book.accounts;
-        let a = slot(raw.account);
-        let account = accounts[a];
-        posted = posted.book.post(raw);
-        let answer = posted.answer;
-        if let Check::Refused(refusal) = verdict(answer, record.next, account.newest) {
-            return failed(refusal, number);
-        }
-        i = number;
-    }
-    let book = posted.book;
-    Loaded {
-        book,
-        answer: LoadAnswer::Accepted,
-    }
+    // The results are not read.
+    let mut unused = [0u8; 1];
+    replay(Book::fresh(), &image[RECORD..], true, &mut unused)
 }

@@ -6,6 +6,7 @@ use Rattle.measures.specs.Days.{day, sinceOf}
 use Rattle.measures.specs.declared.Cents.{Cents}
 use Rattle.entries.specs.Kinds.{sameOf}
 use Rattle.entries.specs.Entries.{metres, namedOf, refundedOf, expiredOf, restatedOf}
+use Rattle.entries.specs.Refusals.{refusalNumber}
 use Rattle.entries.specs.declared.raw.Raw.{Raw}
 use Rattle.entries.specs.declared.kinds.Kind.{Kind}
 use Rattle.entries.specs.declared.kinds.Kind.the-variants as kind
@@ -120,6 +121,11 @@ effectOf r kind.Deposit acc f d = Accepted (depositOf r acc)
 effectOf r kind.DepositReturn acc f d = Accepted (depositReturnOf r acc)
 effectOf r kind.Expiry acc f d = expiryOf r acc f d
 effectOf r kind.Correction acc f d = correctionOf r acc f d
+
+-- the refusal's number; 0 means accepted
+unfoldable pub outcomeNumber : Outcome → ℕ
+outcomeNumber (Refused n) = refusalNumber n
+outcomeNumber (Accepted c) = 0
 
 -- an accepted answer carries the entry's number and the four amounts
 unfoldable pub answerOf : Outcome → ℕ → Answer

@@ -6,6 +6,7 @@ use crate::formulas::billed;
 use crate::formulas::interest;
 use crate::formulas::refund;
 use entries::Data;
+use entries::Entry;
 use entries::Kind;
 use entries::Raw;
 use entries::Refusal;
@@ -13,7 +14,8 @@ use measures::Cents;
 use measures::Day;
 use measures::Metres;
 ghost use mathlib.Core.Path.{_≡_};
-ghost use Rattle.rules.specs.Changes.{aloneOf, contributionOf, addedCustomerOf, billOf, paymentOf, depositOf, depositReturnOf, expiryOf, pickOf, correctionOf, effectOf, answerOf, nothingOf};
+ghost use Rattle.entries.specs.Entries.{entryOf, withOf};
+ghost use Rattle.rules.specs.Changes.{aloneOf, contributionOf, addedCustomerOf, billOf, paymentOf, depositOf, depositReturnOf, expiryOf, pickOf, correctionOf, effectOf, outcomeNumber, answerOf, nothingOf};
 
 // Where a named entry stands in the book's array.
 pub enum Found {
@@ -49,9 +51,35 @@ impl Change {
             amounts,
         }
     }
+
+    // The new entry. `newest` is the number of the account's previous entry.
+    pub fn entry(self, raw: Raw, newest: u16) -> Entry
+        ensures { λ r. ⌜ r ≡ entryOf raw newest (self .«data») ⌝ }
+    {
+        let what = self.data;
+        raw.entry(newest, what)
+    }
+
+    // The named entry afterwards.
+    pub fn rewritten(self, named: Entry) -> Entry
+        ensures { λ r. ⌜ r ≡ withOf named (self .named) ⌝ }
+    {
+        let what = self.named;
+        named.with(what)
+    }
 }
 
 impl Outcome {
+    // The refusal's number, and 0 where the entry is accepted.
+    pub fn refusal(self) -> u8
+        ensures { λ r. ⌜ r ≡ outcomeNumber self ⌝ }
+    {
+        match self {
+            Outcome::Refused(refusal) => refusal.number(),
+            Outcome::Accepted(_) => 0,
+        }
+    }
+
     // The answer, where the entry's number would be `number`.
     pub fn answer(self, number: u16) -> Answer
         ensures { λ r. ⌜ r ≡ answerOf self number ⌝ }

@@ -2,6 +2,7 @@ use borrow.Author.Needs.{needs}
 use mathlib.Core.Path.{sym, ap, _∙_}
 use denote.Ref.{now}
 use Rattle.image.specs.Saves.{savedReply}
+use Rattle.contribution_book.proofs.Runs.{run-posted}
 use Rattle.contribution_book.proofs.Images.{carry-17, carry-22, carry-21, carry-accepted, carry-fits}
 use Rattle.contribution_book.proofs.carries.carry_into.Statement.{statement}
 use Rattle.contribution_book.proofs.carries.carry_into.Tie as tie
@@ -27,8 +28,8 @@ refused-requires-3 c κs = search needs
 returns-3 : tie.Need-returns-3
 returns-3 c = rw (c .refused3 .ensures) (carry-21 (c .before .before .before .before .before .before .before .before .args .book) (now (c .before .before .before .before .before .before .before .before .args .run)) (now (c .before .before .before .before .before .before .before .before .args .results)) (now (c .before .before .before .before .before .before .before .before .args .output)) (c .before .before .before .before .if1 .left) (c .before .before .before .if2 .left) (sym (c .before .before .too-short .ensures) ∙ c .before .if3 .taken))
 
-posts-requires : tie.Need-posts-requires
-posts-requires c κs = search needs
+replay-requires : tie.Need-replay-requires
+replay-requires c κs = search needs
 
 save-requires : tie.Need-save-requires
 save-requires c κs = search needs
@@ -50,7 +51,7 @@ same-length-2 c = search needs
 
 returns-4 : tie.Need-returns-4
 unfolding savedReply
-returns-4 c = carry-accepted (c .before .before .before .before .before .before .before .before .before .before .before .before .before .before .before .before .before .before .args .book) (now (c .before .before .before .before .before .before .before .before .before .before .before .before .before .before .before .before .before .before .args .run)) (now (c .before .before .before .before .before .before .before .before .before .before .before .before .before .before .before .before .before .before .args .results)) (now (c .before .before .before .before .before .before .before .before .before .before .before .before .before .before .before .before .before .before .args .output)) (c .before .before .before .before .before .before .before .before .before .before .before .before .before .before .if1 .left) (c .before .before .before .before .before .before .before .before .before .before .before .before .before .if2 .left) (c .before .before .before .before .before .before .before .before .before .posts .result) _ _ (c .before .bytes .given .0 .0) (c .before .before .before .before .before .before .before .before .before .posts .ensures .0) (sym (ap savedReply (c .before .bytes .given .1)) ∙ c .before .before .before .before .before .save .ensures .0) (c .before .before .before .before .before .before .before .before .before .posts .ensures .1) (c .before .before .before .before .before .save .ensures .1)
+returns-4 c = carry-accepted (c .before .before .before .before .before .before .before .before .before .before .before .before .before .before .before .before .before .before .before .args .book) (now (c .before .before .before .before .before .before .before .before .before .before .before .before .before .before .before .before .before .before .before .args .run)) (now (c .before .before .before .before .before .before .before .before .before .before .before .before .before .before .before .before .before .before .before .args .results)) (now (c .before .before .before .before .before .before .before .before .before .before .before .before .before .before .before .before .before .before .before .args .output)) (c .before .before .before .before .before .before .before .before .before .before .before .before .before .before .before .if1 .left) (c .before .before .before .before .before .before .before .before .before .before .before .before .before .before .if2 .left) (c .before .before .before .before .before .before .before .before .before .before .replay .result .book) _ _ (c .before .bytes .given .0 .0) (run-posted (c .before .before .before .before .before .before .before .before .before .before .before .before .before .before .before .before .before .before .before .args .book) (now (c .before .before .before .before .before .before .before .before .before .before .before .before .before .before .before .before .before .before .before .args .run)) _ _ (c .before .before .before .before .before .before .before .before .before .before .replay .result) (c .before .before .before .before .before .before .before .before .before .before .replay .ensures) .0) (sym (ap savedReply (c .before .bytes .given .1)) ∙ c .before .before .before .before .before .save .ensures .0) (run-posted (c .before .before .before .before .before .before .before .before .before .before .before .before .before .before .before .before .before .before .before .args .book) (now (c .before .before .before .before .before .before .before .before .before .before .before .before .before .before .before .before .before .before .before .args .run)) _ _ (c .before .before .before .before .before .before .before .before .before .before .replay .result) (c .before .before .before .before .before .before .before .before .before .before .replay .ensures) .1) (c .before .before .before .before .before .save .ensures .1)
 
 same-length-3 : tie.Need-same-length-3
 same-length-3 c = search needs
@@ -60,7 +61,7 @@ same-length-4 c = search needs
 
 returns-5 : tie.Need-returns-5
 unfolding savedReply
-returns-5 c = absurd (carry-fits (c .before .before .before .before .before .before .before .before .before .before .before .before .before .before .before .before .before .before .before .args .book) (now (c .before .before .before .before .before .before .before .before .before .before .before .before .before .before .before .before .before .before .before .args .run)) (now (c .before .before .before .before .before .before .before .before .before .before .before .before .before .before .before .before .before .before .before .args .results)) (now (c .before .before .before .before .before .before .before .before .before .before .before .before .before .before .before .before .before .before .before .args .output)) (c .before .before .before .before .before .before .before .before .before .before .before .before .before .before .before .if1 .left) (c .before .before .before .before .before .before .before .before .before .before .before .before .before .before .if2 .left) (c .before .before .before .before .before .before .before .before .before .before .posts .result) (c .before .before .refusal .given .0 .0) (c .before .before .before .before .before .before .before .before .before .before .posts .ensures .0) (sym (c .before .before .before .before .before .before .before .before .before .before .before .before .before .too-short .ensures) ∙ c .before .before .before .before .before .before .before .before .before .before .before .before .if3 .left) (sym (ap savedReply (c .before .before .refusal .given .1)) ∙ c .before .before .before .before .before .before .save .ensures .0))
+returns-5 c = absurd (carry-fits (c .before .before .before .before .before .before .before .before .before .before .before .before .before .before .before .before .before .before .before .before .args .book) (now (c .before .before .before .before .before .before .before .before .before .before .before .before .before .before .before .before .before .before .before .before .args .run)) (now (c .before .before .before .before .before .before .before .before .before .before .before .before .before .before .before .before .before .before .before .before .args .results)) (now (c .before .before .before .before .before .before .before .before .before .before .before .before .before .before .before .before .before .before .before .before .args .output)) (c .before .before .before .before .before .before .before .before .before .before .before .before .before .before .before .before .if1 .left) (c .before .before .before .before .before .before .before .before .before .before .before .before .before .before .before .if2 .left) (c .before .before .before .before .before .before .before .before .before .before .before .replay .result .book) (c .before .before .refusal .given .0 .0) (run-posted (c .before .before .before .before .before .before .before .before .before .before .before .before .before .before .before .before .before .before .before .before .args .book) (now (c .before .before .before .before .before .before .before .before .before .before .before .before .before .before .before .before .before .before .before .before .args .run)) _ _ (c .before .before .before .before .before .before .before .before .before .before .before .replay .result) (c .before .before .before .before .before .before .before .before .before .before .before .replay .ensures) .0) (sym (c .before .before .before .before .before .before .before .before .before .before .before .before .before .before .too-short .ensures) ∙ c .before .before .before .before .before .before .before .before .before .before .before .before .before .if3 .left) (sym (ap savedReply (c .before .before .refusal .given .1)) ∙ c .before .before .before .before .before .before .save .ensures .0))
 
 pub carry-into-spec : {M : Type 1} → statement M
 carry-into-spec =
@@ -73,7 +74,7 @@ carry-into-spec =
     too-short-requires
     refused-requires-3
     returns-3
-    posts-requires
+    replay-requires
     save-requires
     enum-known-bytes
     enum-known-refusal

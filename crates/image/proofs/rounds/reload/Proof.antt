@@ -44,8 +44,8 @@ unfolding savedReply
 returns c =
     let start = c .before .before .before .before .before .before .before .before .before .before in
     let b = start .args .book in
-    let full = simp length-map at (start .good .0 .1 .1 .1 .0 .1 .0 .1) in
-    reload-done b (now (start .args .buf)) _ (c .before .before .before .n .given .0 .0) _ full (ranges (sizeOf b) (b .entries) (start .good .0 .1 .1 .1 .0 .0) (start .good .0 .1 .1 .1 .0 .1 .1)) (sym (ap savedReply (c .before .before .before .n .given .1)) ∙ c .before .before .before .before .before .before .before .save .ensures .0) (c .before .before .before .before .before .before .before .save .ensures .1) (c .load .ensures)
+    let full = simp length-map at (start .good .0 .1 .1 .1 .1 .0 .1 .0 .1) in
+    reload-done b (now (start .args .buf)) _ (c .before .before .before .n .given .0 .0) _ full (ranges (sizeOf b) (b .entries) (start .good .0 .1 .1 .1 .1 .0 .0) (start .good .0 .1 .1 .1 .1 .0 .1 .1)) (sym (ap savedReply (c .before .before .before .n .given .1)) ∙ c .before .before .before .before .before .before .before .save .ensures .0) (c .before .before .before .before .before .before .before .save .ensures .1) (c .load .ensures)
 
 same-length-2 : tie.Need-same-length-2
 same-length-2 c = search needs

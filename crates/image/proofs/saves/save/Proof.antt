@@ -19,7 +19,7 @@ abbrev μ-loop : tie.MeasureT-loop
 
 -- owning the book tells that it has 1,024 places
 full : (c : tie.Start Inv-loop μ-loop) → length (c .args .t1 .entries) ≡ 1024
-full c = simp length-map at (c .good .0 .1 .1 .1 .0 .1 .0 .1)
+full c = simp length-map at (c .good .0 .1 .1 .1 .1 .0 .1 .0 .1)
 
 size-requires : tie.Need-size-requires Inv-loop μ-loop
 size-requires c κs = search needs

@@ -2,8 +2,8 @@ use borrow.Author.Needs.{needs}
 use mathlib.Core.Path.{sym}
 use denote.Ref.{now}
 use lib.Seq.{set-out}
-use Rattle.contribution_book.proofs.carries.mark.Statement.{statement}
-use Rattle.contribution_book.proofs.carries.mark.Tie as tie
+use Rattle.image.proofs.loads.mark.Statement.{statement}
+use Rattle.image.proofs.loads.mark.Tie as tie
 
 slice-write-results : tie.Need-slice-write-results
 slice-write-results c = search needs

@@ -1,0 +1,25 @@
+use mathlib.Core.Path.{sym, _∙_}
+use borrow.Author.Needs.{needs}
+use Rattle.book.specs.Chain.{placeOf}
+use Rattle.book.proofs.Search.place.Statement.{statement}
+use Rattle.book.proofs.Search.place.Tie as tie
+
+ends-requires : tie.Need-ends-requires
+ends-requires c κs = search needs
+
+returns : tie.Need-returns
+unfolding placeOf
+returns c = simp (sym (c .before .ends .ensures) ∙ c .if1 .taken)
+
+less-one-requires : tie.Need-less-one-requires
+less-one-requires c κs = search needs
+
+cast-result : tie.Need-cast-result
+cast-result c = search needs
+
+returns-2 : tie.Need-returns-2
+unfolding placeOf
+returns-2 c = simp (sym (c .before .before .ends .ensures) ∙ c .before .if1 .left, c .less-one .ensures)
+
+pub place-spec : {M : Type 1} → statement M
+place-spec = tie.close (tie.spec ends-requires returns less-one-requires cast-result returns-2)
