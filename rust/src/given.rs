@@ -1,7 +1,23 @@
-//! The plain book's statement as the proved library gives it.
+//! The plain book's answers as the proved library gives them.
 
-use crate::plain::StatementReply;
-use crate::proved::StatementGiven;
+use crate::plain::{ContributionReply, Reply, StatementReply};
+use crate::proved::{ContributionGiven, Posted, StatementGiven};
+
+impl Posted {
+    /// The answer to a posting after which the image has so many bytes.
+    pub fn new(reply: Reply, bytes: usize) -> Posted {
+        Posted {
+            refusal: reply.refusal,
+            record: 0,
+            number: reply.number,
+            bytes,
+            settled: reply.settled,
+            paid_out: reply.paid_out,
+            retained: reply.retained,
+            interest: reply.interest,
+        }
+    }
+}
 
 impl From<StatementReply> for StatementGiven {
     fn from(reply: StatementReply) -> StatementGiven {
@@ -16,6 +32,22 @@ impl From<StatementReply> for StatementGiven {
             held: reply.held,
             bills: reply.bills,
             payments: reply.payments,
+        }
+    }
+}
+
+impl From<ContributionReply> for ContributionGiven {
+    fn from(reply: ContributionReply) -> ContributionGiven {
+        ContributionGiven {
+            refusal: reply.refusal,
+            record: 0,
+            added: reply.customers,
+            closed: reply.closed,
+            amount: reply.amount,
+            to_arrears: reply.to_arrears,
+            paid_out: reply.paid_out,
+            held: reply.held,
+            retained: reply.retained,
         }
     }
 }

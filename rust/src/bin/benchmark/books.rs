@@ -1,9 +1,12 @@
 //! The same call by the proved book, by the plain one and by the plain one
-//! passed by value: each loads the image, and a carry-over saves the next.
+//! passed by value: each loads the image, and a posting or carry-over saves the
+//! next.
 
 use crate::cases::{Call, Case};
 use contribution_book::plain::{parse_record, Raw, ENTRIES, RECORD};
-use contribution_book::proved::{self, Carried, Checked, StatementGiven, LONGEST};
+use contribution_book::proved::{
+    self, Carried, Checked, ContributionGiven, Posted, StatementGiven, LONGEST,
+};
 use contribution_book::{by_value, plain};
 
 /// What a call writes to.
@@ -28,8 +31,22 @@ impl Buffers {
 #[derive(Debug, PartialEq, Eq)]
 pub enum Answer {
     Checked(Checked),
+    Posted(Posted),
     Carried(Carried),
     Statement(StatementGiven),
+    Contribution(ContributionGiven),
+}
+
+impl Answer {
+    pub fn refusal(&self) -> u8 {
+        match self {
+            Answer::Checked(given) => given.refusal,
+            Answer::Posted(given) => given.refusal,
+            Answer::Carried(given) => given.refusal,
+            Answer::Statement(given) => given.refusal,
+            Answer::Contribution(given) => given.refusal,
+        }
+    }
 }
 
 /// Makes a case's call.
@@ -43,10 +60,16 @@ fn proved(case: &Case, buffers: &mut Buffers) -> Answer {
     let image = &case.image;
     match &case.call {
         Call::Check => Answer::Checked(proved::check(image)),
+        Call::Post { entry } => Answer::Posted(proved::post(image, entry, output)),
         Call::CarryOver { run } => Answer::Carried(proved::carry_over(image, run, results, output)),
-        Call::Statement { account, allowance } => {
-            Answer::Statement(proved::statement(image, *account, *allowance))
+        &Call::Statement { account, allowance } => {
+            Answer::Statement(proved::statement(image, account, allowance))
         }
+        &Call::Contribution {
+            account,
+            node,
+            serial,
+        } => Answer::Contribution(proved::contribution(image, account, node, serial)),
     }
 }
 
@@ -55,14 +78,24 @@ fn plain(case: &Case, buffers: &mut Buffers) -> Answer {
     assert_eq!(refusal, 0);
     match &case.call {
         Call::Check => checked(book.count()),
+        Call::Post { entry } => {
+            let reply = book.post(&parse_record(entry).0);
+            let (refusal, bytes) = book.save(&mut buffers.output);
+            posted(reply, refusal, bytes)
+        }
         Call::CarryOver { run } => {
             assert_eq!(book.carry_over(&entries(run), &mut buffers.results), 0);
             let (refusal, bytes) = book.save(&mut buffers.output);
             carried(refusal, bytes)
         }
-        Call::Statement { account, allowance } => {
-            Answer::Statement(book.statement(*account, *allowance).into())
+        &Call::Statement { account, allowance } => {
+            Answer::Statement(book.statement(account, allowance).into())
         }
+        &Call::Contribution {
+            account,
+            node,
+            serial,
+        } => Answer::Contribution(book.contribution_query(account, node, serial).into()),
     }
 }
 
@@ -71,15 +104,28 @@ fn by_value(case: &Case, buffers: &mut Buffers) -> Answer {
     assert_eq!(refusal, 0);
     match &case.call {
         Call::Check => checked(book.count()),
+        Call::Post { entry } => {
+            let (book, reply) = book.post(&parse_record(entry).0);
+            let (_, refusal, bytes) = book.save(&mut buffers.output);
+            posted(reply, refusal, bytes)
+        }
         Call::CarryOver { run } => {
             let (book, refusal) = book.carry_over(&entries(run), &mut buffers.results);
             assert_eq!(refusal, 0);
             let (_, refusal, bytes) = book.save(&mut buffers.output);
             carried(refusal, bytes)
         }
-        Call::Statement { account, allowance } => {
-            let (_, reply) = book.statement(*account, *allowance);
+        &Call::Statement { account, allowance } => {
+            let (_, reply) = book.statement(account, allowance);
             Answer::Statement(reply.into())
+        }
+        &Call::Contribution {
+            account,
+            node,
+            serial,
+        } => {
+            let (_, reply) = book.contribution_query(account, node, serial);
+            Answer::Contribution(reply.into())
         }
     }
 }
@@ -96,6 +142,12 @@ fn checked(count: usize) -> Answer {
         entries: count as u16,
         ..Checked::default()
     })
+}
+
+/// A posting's answer, with the save's refusal number and bytes.
+fn posted(reply: plain::Reply, refusal: u8, bytes: usize) -> Answer {
+    assert_eq!(refusal, 0);
+    Answer::Posted(Posted::new(reply, bytes))
 }
 
 fn carried(refusal: u8, bytes: usize) -> Answer {

@@ -9,14 +9,32 @@ pub struct Case {
     pub name: &'static str,
     pub image: Vec<u8>,
     pub call: Call,
-    /// Records that the call loads and entries that it posts.
-    pub postings: usize,
 }
 
 pub enum Call {
     Check,
+    Post { entry: Vec<u8> },
     CarryOver { run: Vec<u8> },
     Statement { account: u16, allowance: u64 },
+    Contribution { account: u16, node: u8, serial: u32 },
+}
+
+impl Case {
+    /// A call on the image of these entries.
+    fn new(name: &'static str, entries: &[Raw], call: Call) -> Case {
+        let image = image(entries);
+        Case { name, image, call }
+    }
+
+    /// Records that the call loads and entries that it posts.
+    pub fn postings(&self) -> usize {
+        let loaded = self.image.len() / RECORD - 1;
+        let posted = match &self.call {
+            Call::Post { entry: run } | Call::CarryOver { run } => run.len() / RECORD,
+            _ => 0,
+        };
+        loaded + posted
+    }
 }
 
 /// The account of the runs of one kind.
@@ -24,49 +42,80 @@ const ACCOUNT: u16 = 5;
 
 /// The calls that are timed, all accepted, as are all their entries.
 pub fn cases() -> Vec<Case> {
+    [loads(), runs(), single_calls()]
+        .into_iter()
+        .flatten()
+        .collect()
+}
+
+fn loads() -> Vec<Case> {
+    let full = mixed(ENTRIES);
+    let corrected = corrected(512).concat();
+    vec![
+        Case::new("load of an empty image", &[], Call::Check),
+        Case::new("load of a full image", &full, Call::Check),
+        carry_over("load and save of a full image", &full, &[]),
+        Case::new(
+            "load of 512 payments and a correction of each",
+            &corrected,
+            Call::Check,
+        ),
+    ]
+}
+
+fn runs() -> Vec<Case> {
     let contribution = run(CONTRIBUTION, 1..=1);
     let chain = [&contribution[..], &run(PAYMENT, 2..=500)].concat();
     let customers = run(ADDED_CUSTOMER, 501..=1_000);
-    let full = mixed(ENTRIES);
+    let [payments, corrections] = corrected(500);
     vec![
         carry_over("500 payments", &contribution, &run(PAYMENT, 2..=501)),
+        carry_over("500 entries of all kinds", &[], &mixed(500)),
         carry_over(
             "500 added customers after a chain of 500",
             &chain,
             &customers,
         ),
-        carry_over("500 entries of all kinds", &[], &mixed(500)),
-        Case {
-            name: "load of a full image",
-            image: image(&full),
-            call: Call::Check,
-            postings: ENTRIES,
-        },
-        carry_over("load and save of a full image", &full, &[]),
-        Case {
-            name: "statement of a chain of 1,024",
-            image: image(&run(PAYMENT, 1..=1_024)),
-            call: Call::Statement {
-                account: ACCOUNT,
-                allowance: 1_024,
-            },
-            postings: ENTRIES,
-        },
+        carry_over(
+            "500 corrections after the 500 payments",
+            &payments,
+            &corrections,
+        ),
+    ]
+}
+
+fn single_calls() -> Vec<Case> {
+    let contribution = run(CONTRIBUTION, 1..=1);
+    let chain = [contribution, run(PAYMENT, 2..=1_024)].concat();
+    let payment = records(&run(PAYMENT, 1_001..=1_001));
+    let statement = Call::Statement {
+        account: ACCOUNT,
+        allowance: 1_024,
+    };
+    let query = Call::Contribution {
+        account: ACCOUNT,
+        node: 1,
+        serial: 1,
+    };
+    vec![
+        Case::new(
+            "a payment after 1,000 entries of all kinds",
+            &mixed(1_000),
+            Call::Post { entry: payment },
+        ),
+        Case::new(
+            "statement of a chain of 1,024",
+            &run(PAYMENT, 1..=1_024),
+            statement,
+        ),
+        Case::new("contribution at the end of a chain of 1,024", &chain, query),
     ]
 }
 
 /// A run of entries carried over into the image of those before.
 fn carry_over(name: &'static str, before: &[Raw], run: &[Raw]) -> Case {
-    let next = image(&[before, run].concat());
-    let (_, records) = next.split_at(RECORD * (before.len() + 1));
-    Case {
-        name,
-        image: image(before),
-        call: Call::CarryOver {
-            run: records.to_vec(),
-        },
-        postings: before.len() + run.len(),
-    }
+    let run = records(run);
+    Case::new(name, before, Call::CarryOver { run })
 }
 
 /// Entries of one kind and account. Where the kind names an entry, they name the
@@ -75,6 +124,16 @@ fn run(kind: u8, serials: RangeInclusive<u32>) -> Vec<Raw> {
     serials
         .map(|serial| entry(kind, ACCOUNT, serial, 1))
         .collect()
+}
+
+/// So many payments, and then a correction of each, oldest first: each names the
+/// entry that is so many links down the chain.
+fn corrected(count: u32) -> [Vec<Raw>; 2] {
+    let correction = |named| entry(CORRECTION, ACCOUNT, count + named, named);
+    [
+        run(PAYMENT, 1..=count),
+        (1..=count).map(correction).collect(),
+    ]
 }
 
 /// Entries of all kinds over groups of 16 accounts: in a group each account has
@@ -99,5 +158,15 @@ pub fn image(entries: &[Raw]) -> Vec<u8> {
     let mut bytes = vec![0; LONGEST];
     let (_, length) = book.save(&mut bytes);
     bytes.truncate(length);
+    bytes
+}
+
+/// The records of entries that are offered, of which no call reads the next
+/// index.
+fn records(entries: &[Raw]) -> Vec<u8> {
+    let mut bytes = vec![0; RECORD * entries.len()];
+    for (record, raw) in bytes.chunks_exact_mut(RECORD).zip(entries) {
+        write_record(record, raw, 0);
+    }
     bytes
 }

@@ -1,64 +1,41 @@
 //! Times calls of the proved book side by side with the same work of the plain
 //! Rust book, of that book passed by value, and with a copy of the proved
-//! book's bytes. Writes a table of ratios in Markdown.
+//! book's bytes; and the statement printers beside a process without a book.
+//! Writes tables in Markdown.
 
 mod books;
 mod cases;
 mod printers;
+mod table;
 mod timing;
 
 use books::{Buffers, CALLERS};
 use cases::{Call, Case};
 use contribution_book::plain::{ENTRIES, RECORD};
-use std::fs;
+use printers::print;
 use std::hint::black_box;
-use std::thread;
-use timing::{measure, Side};
+use std::path::Path;
+use timing::{measure, Side, Times};
 
 /// Bytes of the proved book.
 const PROVED_BYTES: usize = 87_056;
 
 fn main() {
-    print_head();
+    table::print_head();
     for case in cases::cases() {
         eprintln!("{}", case.name);
         compare(&case);
-        print_row(case.name, case.postings, time_case(&case));
+        table::print_row(case.name, case.postings(), &time_case(&case));
     }
     let name = "statement printer as a process, full image";
     eprintln!("{name}");
-    print_row(name, ENTRIES, time_printers());
+    let times = time_printers();
+    table::print_row(name, ENTRIES, &times);
+    table::print_printers(&times);
 }
 
-/// The kind of machine, and the table's head.
-fn print_head() {
-    let processors = fs::read_to_string("/proc/cpuinfo").unwrap_or_default();
-    let model = processors
-        .lines()
-        .find_map(|line| line.strip_prefix("model name")?.split_once(": "))
-        .map_or("unknown processor", |(_, model)| model);
-    let cores = thread::available_parallelism().map_or(1, usize::from);
-    println!("{model}, {cores} cores.");
-    println!("Ratios of the proved call's time to the plain Rust book's, to the same");
-    println!("book's passed by value, and to one copy of the proved book's bytes");
-    println!("({PROVED_BYTES}). Postings are records loaded and entries posted.");
-    println!();
-    println!(
-        "| Call | Postings | Proved, µs | / plain | / by value | / copy | / copy, each posting |"
-    );
-    println!("|---|---:|---:|---:|---:|---:|---:|");
-}
-
-fn print_row(name: &str, postings: usize, figures: [f64; 4]) {
-    let [proved, to_plain, to_by_value, to_copy] = figures;
-    let each = to_copy / postings as f64;
-    println!(
-        "| {name} | {postings} | {proved:.0} | {to_plain:.1} | {to_by_value:.2} | {to_copy:.0} | {each:.2} |"
-    );
-}
-
-/// Stops unless all books give the same answer and leave the same bytes, and
-/// accept every entry of a run.
+/// Stops unless all books accept the call and every entry of a run, give the
+/// same answer and leave the same bytes.
 fn compare(case: &Case) {
     let [proved, others @ ..] = CALLERS.map(|call| {
         let mut buffers = Buffers::new();
@@ -68,13 +45,15 @@ fn compare(case: &Case) {
         assert_eq!(proved.0, other.0, "{}", case.name);
         assert!(proved.1 == other.1, "{}: the bytes differ", case.name);
     }
+    assert_eq!(proved.0.refusal(), 0, "{}", case.name);
     if let Call::CarryOver { run } = &case.call {
         let results = &proved.1.results[..run.len() / RECORD];
         assert!(results.iter().all(|&refusal| refusal == 0), "{}", case.name);
     }
 }
 
-fn time_case(case: &Case) -> [f64; 4] {
+/// The times of `table`'s sides but the processes.
+fn time_case(case: &Case) -> Times<4> {
     let [proved, plain, by_value] = CALLERS.map(|call| {
         let mut buffers = Buffers::new();
         Side::new(move || {
@@ -85,21 +64,37 @@ fn time_case(case: &Case) -> [f64; 4] {
     measure([proved, plain, by_value, copy()])
 }
 
-fn time_printers() -> [f64; 4] {
+/// The times of all of `table`'s sides.
+fn time_printers() -> Times<8> {
     let image = cases::image(&cases::mixed(ENTRIES));
-    let programs = printers::programs();
-    let [proved, others @ ..] = programs
-        .each_ref()
-        .map(|program| printers::print(program, &image));
-    for other in others {
-        assert_eq!(proved, other, "the printers");
+    let unmarked = [&[0], &image[1..]].concat();
+    let [bare, printers @ ..] = printers::programs();
+    for image in [&image, &unmarked] {
+        let [proved, others @ ..] = printers.each_ref().map(|printer| print(printer, image));
+        assert_eq!(others, [&proved[..]; 2], "the printers");
     }
-    let [proved, plain, by_value] = programs.each_ref().map(|program| {
-        Side::new(|| {
-            black_box(printers::print(program, &image));
-        })
-    });
-    measure([proved, plain, by_value, copy()])
+    assert!(print(&bare, &image).is_empty(), "the bare process");
+    let [proved, plain, by_value] = printers.each_ref().map(|printer| process(printer, &image));
+    let refused = printers
+        .each_ref()
+        .map(|printer| process(printer, &unmarked));
+    let [proved_refused, plain_refused, by_value_refused] = refused;
+    measure([
+        proved,
+        plain,
+        by_value,
+        copy(),
+        process(&bare, &image),
+        proved_refused,
+        plain_refused,
+        by_value_refused,
+    ])
+}
+
+fn process<'a>(program: &'a Path, image: &'a [u8]) -> Side<'a> {
+    Side::new(|| {
+        black_box(print(program, image));
+    })
 }
 
 /// One copy of the proved book's bytes, to the place behind them.

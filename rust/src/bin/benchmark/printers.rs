@@ -1,23 +1,24 @@
-//! The statement printers as processes.
+//! The statement printers as processes, and one without a book.
 
 use std::env;
 use std::io::Write;
 use std::path::{Path, PathBuf};
 use std::process::{Command, Stdio};
 
-/// The programs of the proved book, of the plain one and of the plain one
-/// passed by value.
-pub fn programs() -> [PathBuf; 3] {
+/// The bare program, which only reads the image, and the printers of the proved
+/// book, of the plain one and of the plain one passed by value.
+pub fn programs() -> [PathBuf; 4] {
     let benchmark = env::current_exe().expect("this program has a path");
     let root = Path::new(env!("CARGO_MANIFEST_DIR")).join("..");
     [
+        benchmark.with_file_name("bare"),
         root.join("target/bin/statements"),
         benchmark.with_file_name("statements_plain"),
         benchmark.with_file_name("statements_by_value"),
     ]
 }
 
-/// What a printer writes of an image.
+/// What a program writes of an image.
 pub fn print(program: &Path, image: &[u8]) -> Vec<u8> {
     let mut child = Command::new(program)
         .stdin(Stdio::piped())

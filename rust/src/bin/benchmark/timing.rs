@@ -3,7 +3,7 @@
 use std::time::{Duration, Instant};
 
 /// Rounds of a measurement. A figure is the median of its rounds.
-const ROUNDS: usize = 51;
+const ROUNDS: usize = 101;
 /// What a side's turn lasts at least, by repeating its work.
 const TURN: Duration = Duration::from_millis(2);
 
@@ -39,21 +39,32 @@ impl<'a> Side<'a> {
     }
 }
 
-/// The first side's time in microseconds, and its ratio to each of the others.
-pub fn measure<const N: usize>(mut sides: [Side; N]) -> [f64; N] {
-    let rounds: Vec<[f64; N]> = (0..ROUNDS)
-        .map(|_| sides.each_mut().map(Side::time))
-        .collect();
-    std::array::from_fn(|side| {
-        median(rounds.iter().map(|times| match side {
-            0 => times[0],
-            other => times[0] / times[other],
-        }))
-    })
+/// Each round's times of the sides, in microseconds.
+pub struct Times<const N: usize>(Vec<[f64; N]>);
+
+pub fn measure<const N: usize>(mut sides: [Side; N]) -> Times<N> {
+    let rounds = (0..ROUNDS).map(|_| sides.each_mut().map(Side::time));
+    Times(rounds.collect())
 }
 
-fn median(figures: impl Iterator<Item = f64>) -> f64 {
-    let mut sorted: Vec<f64> = figures.collect();
-    sorted.sort_by(f64::total_cmp);
-    sorted[sorted.len() / 2]
+impl<const N: usize> Times<N> {
+    pub fn time(&self, side: usize) -> f64 {
+        self.median(|times| times[side])
+    }
+
+    /// How many times the other's time a side takes.
+    pub fn ratio(&self, side: usize, other: usize) -> f64 {
+        self.median(|times| times[side] / times[other])
+    }
+
+    /// How much longer than the other a side takes.
+    pub fn more(&self, side: usize, other: usize) -> f64 {
+        self.median(|times| times[side] - times[other])
+    }
+
+    fn median(&self, figure: impl Fn(&[f64; N]) -> f64) -> f64 {
+        let mut sorted: Vec<f64> = self.0.iter().map(figure).collect();
+        sorted.sort_by(f64::total_cmp);
+        sorted[sorted.len() / 2]
+    }
 }

@@ -71,16 +71,7 @@ fn post(book: &mut Book, entry: &[u8], output: &mut [u8]) -> Given<Posted> {
     }
     let reply = book.post(&parse_record(entry).0);
     accept(reply.refusal)?;
-    Ok(Posted {
-        refusal: 0,
-        record: 0,
-        number: reply.number,
-        bytes: save(book, output)?,
-        settled: reply.settled,
-        paid_out: reply.paid_out,
-        retained: reply.retained,
-        interest: reply.interest,
-    })
+    Ok(Posted::new(reply, save(book, output)?))
 }
 
 fn carry_over(
@@ -119,15 +110,5 @@ fn statement(book: &Book, account: u16, allowance: u64) -> Given<StatementGiven>
 fn contribution(book: &Book, account: u16, node: u8, serial: u32) -> Given<ContributionGiven> {
     let reply = book.contribution_query(account, node, serial);
     accept(reply.refusal)?;
-    Ok(ContributionGiven {
-        refusal: 0,
-        record: 0,
-        added: reply.customers,
-        closed: reply.closed,
-        amount: reply.amount,
-        to_arrears: reply.to_arrears,
-        paid_out: reply.paid_out,
-        held: reply.held,
-        retained: reply.retained,
-    })
+    Ok(reply.into())
 }

@@ -182,13 +182,14 @@ impl List {
     }
 }
 
-/// A history of so many entries. None has the last serial, after which its
-/// node could write no more.
+/// A history of so many entries. Each leaves its node a serial for every entry
+/// still to come and one more, so that another can always be written.
 fn begun(random: &mut Random, pool: &Pool, count: usize) -> History {
     let mut history = History::empty();
     while history.entries().len() < count {
+        let left = (count - history.entries().len()) as u32;
         let raw = entries::entry(random, pool, &history);
-        if raw.serial < u32::MAX {
+        if raw.serial <= u32::MAX - left {
             history.offer(&raw);
         }
     }

@@ -84,6 +84,8 @@ fn compare_lists(seed: u64, lists: u64) -> Result<(), String> {
     }
     println!("{tally}");
     println!("{} calls in {lists} lists, no difference", tally.total());
+    let (what, times) = tally.least();
+    println!("tried least: {what}, {times} times");
     match tally.shortages() {
         shortages if shortages.is_empty() => Ok(()),
         shortages => Err(format!("too little was tried:\n{}", shortages.join("\n"))),

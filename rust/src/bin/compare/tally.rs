@@ -68,12 +68,11 @@ impl Met {
         self.counts.iter().sum()
     }
 
-    /// The numbers that were not met often enough.
-    fn rare(&self) -> impl Iterator<Item = u8> + '_ {
-        let rare = |number: &u8| self.counts[usize::from(*number)] < LEAST;
+    /// The numbers that can be met, and how often each was.
+    fn possible(&self) -> impl Iterator<Item = (u8, u64)> + '_ {
         (0..NUMBERS)
             .filter(|&number| (self.possible)(number))
-            .filter(rare)
+            .map(|number| (number, self.counts[usize::from(number)]))
     }
 
     fn cell(&self, number: u8) -> String {
@@ -160,9 +159,25 @@ impl Tally {
         if self.total() < LEAST_CALLS {
             shortages.push(format!("fewer than {LEAST_CALLS} calls"));
         }
+        let tried = self.tried();
+        let rare = tried.iter().filter(|(_, times)| *times < LEAST);
+        shortages.extend(rare.map(|(what, _)| format!("{what} fewer than {LEAST} times")));
+        shortages
+    }
+
+    /// What was tried least of all that has to be tried, and how often.
+    pub fn least(&self) -> (String, u64) {
+        let tried = self.tried().into_iter();
+        let least = tried.min_by_key(|(_, times)| *times);
+        least.expect("the kinds of entry are among them")
+    }
+
+    /// What has to be tried `LEAST` times, and how often it was.
+    fn tried(&self) -> Vec<(String, u64)> {
+        let mut tried = Vec::new();
         let mut add = |met: &Met, what: &str| {
-            let line = |number| format!("{what}: refusal number {number} fewer than {LEAST} times");
-            shortages.extend(met.rare().map(line));
+            let name = |number| format!("{what}: refusal number {number}");
+            tried.extend(met.possible().map(|(number, times)| (name(number), times)));
         };
         for ((name, images), calls) in KINDS.iter().zip(&self.images).zip(&self.calls) {
             add(images, &format!("image of {name}"));
@@ -170,10 +185,8 @@ impl Tally {
         }
         add(&self.carried, "entry carried");
         let kinds = ENTRY_KINDS.iter().zip(self.entry_kinds).skip(1);
-        let rare = kinds.filter(|(_, [accepted, _])| *accepted < LEAST);
-        shortages
-            .extend(rare.map(|(name, _)| format!("{name}: accepted fewer than {LEAST} times")));
-        shortages
+        tried.extend(kinds.map(|(name, [accepted, _])| (format!("{name}: accepted"), accepted)));
+        tried
     }
 }
 

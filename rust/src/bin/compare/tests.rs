@@ -140,6 +140,13 @@ fn the_plain_book_differs_in_nothing_from_itself() {
     }
 }
 
+/// In this list both nodes are offered serials near the last one early on.
+#[test]
+fn a_list_begins_where_serials_are_few() {
+    let list = 8_850_503_138_479_056_310;
+    assert!(compare(list, plain, &mut Tally::new()).is_ok());
+}
+
 #[test]
 fn every_slip_is_found() {
     for (name, slip) in ANSWER_SLIPS.iter().chain(&BUFFER_SLIPS) {
