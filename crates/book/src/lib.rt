@@ -138,7 +138,7 @@ impl Search {
         if ends(self.at) {
             return 0;
         }
-        less_one(self.at) as usize
+        self.at as usize - 1
     }
 
     // After a look at the entry that it stands at.

@@ -70,7 +70,7 @@ contributionOf amount built phases held added closed =
 -- what they read of every entry
 unfoldable pub namedOf : Data → Named
 namedOf Unused = otherOf kind.Unknown
-namedOf (Contribution amount built phases held toArrears paidOut retained added closed) = contributionOf amount built phases held added closed
+namedOf (Contribution phases built added closed amount held toArrears paidOut retained) = contributionOf amount built phases held added closed
 namedOf (AddedCustomer node serial shared phases) = otherOf kind.AddedCustomer
 namedOf (Bill charge period served standing corrected) = correctableOf kind.Bill standing corrected
 namedOf (Payment amount standing corrected) = correctableOf kind.Payment standing corrected
@@ -85,8 +85,8 @@ oneMore n = min (n + 1) 65535
 -- a contribution after a refund, of which `settled` went to arrears and `rest` was paid out
 unfoldable pub refundedOf : Data → Cents → Cents → Cents → Data
 refundedOf Unused refund settled rest = Unused
-refundedOf (Contribution amount built phases held toArrears paidOut retained added closed) refund settled rest =
-    Contribution amount built phases (minusOf held refund) (plusOf toArrears settled) (plusOf paidOut rest) retained (oneMore added) closed
+refundedOf (Contribution phases built added closed amount held toArrears paidOut retained) refund settled rest =
+    Contribution phases built (oneMore added) closed amount (minusOf held refund) (plusOf toArrears settled) (plusOf paidOut rest) retained
 refundedOf (AddedCustomer n s shared phases) refund settled rest = AddedCustomer n s shared phases
 refundedOf (Bill charge period served standing corrected) refund settled rest = Bill charge period served standing corrected
 refundedOf (Payment amount standing corrected) refund settled rest = Payment amount standing corrected
@@ -98,8 +98,8 @@ refundedOf (Correction n s amount) refund settled rest = Correction n s amount
 -- a contribution after its expiry: retained = held; held = 0; it is closed
 unfoldable pub expiredOf : Data → Data
 expiredOf Unused = Unused
-expiredOf (Contribution amount built phases held toArrears paidOut retained added closed) =
-    Contribution amount built phases (cents 0) toArrears paidOut held added true
+expiredOf (Contribution phases built added closed amount held toArrears paidOut retained) =
+    Contribution phases built added true amount (cents 0) toArrears paidOut held
 expiredOf (AddedCustomer n s shared phases) = AddedCustomer n s shared phases
 expiredOf (Bill charge period served standing corrected) = Bill charge period served standing corrected
 expiredOf (Payment amount standing corrected) = Payment amount standing corrected
@@ -111,8 +111,8 @@ expiredOf (Correction n s amount) = Correction n s amount
 -- a bill or payment after its correction
 unfoldable pub restatedOf : Data → Cents → Data
 restatedOf Unused new = Unused
-restatedOf (Contribution amount built phases held toArrears paidOut retained added closed) new =
-    Contribution amount built phases held toArrears paidOut retained added closed
+restatedOf (Contribution phases built added closed amount held toArrears paidOut retained) new =
+    Contribution phases built added closed amount held toArrears paidOut retained
 restatedOf (AddedCustomer n s shared phases) new = AddedCustomer n s shared phases
 restatedOf (Bill charge period served standing corrected) new = Bill charge period served new true
 restatedOf (Payment amount standing corrected) new = Payment amount new true

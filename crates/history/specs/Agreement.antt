@@ -37,7 +37,7 @@ keptAccount b newest = accountOf (cents (b .arrears)) (cents (b .credit)) (cents
 abbrev pub keptData : Kind → Raw → Fate → ℕ → ℕ → Data
 keptData kind.Unknown e f settled paidOut = data′.Unused
 keptData kind.Contribution e f settled paidOut =
-    data′.Contribution (cents (e .amount)) (metres (e .a)) (e .b) (cents (f .held)) (cents settled) (cents paidOut) (cents (f .retained)) (f .added) (f .closed)
+    data′.Contribution (e .b) (metres (e .a)) (f .added) (f .closed) (cents (e .amount)) (cents (f .held)) (cents settled) (cents paidOut) (cents (f .retained))
 keptData kind.AddedCustomer e f settled paidOut = data′.AddedCustomer (e .«named_node») (e .«named_serial») (metres (e .a)) (e .b)
 keptData kind.Bill e f settled paidOut = data′.Bill (cents (e .amount)) (e .a) (e .b) (cents (f .standing)) (f .corrected)
 keptData kind.Payment e f settled paidOut = data′.Payment (cents (e .amount)) (cents (f .standing)) (f .corrected)

@@ -129,7 +129,7 @@ known (suc (suc (suc (suc (suc (suc (suc (suc (suc n))))))))) h = let z : _≡_ 
 kept-refunded : (e : Entry) (d : Data) (a b c : Cents) → rawWith e (refundedOf d a b c) ≡ rawWith e d
 unfolding refundedOf
 kept-refunded e Unused a b c = refl
-kept-refunded e (Contribution amount built phases held toArrears paidOut retained added closed) a b c = refl
+kept-refunded e (Contribution phases built added closed amount held toArrears paidOut retained) a b c = refl
 kept-refunded e (AddedCustomer n s shared phases) a b c = refl
 kept-refunded e (Bill charge period served standing corrected) a b c = refl
 kept-refunded e (Payment amount standing corrected) a b c = refl
@@ -141,7 +141,7 @@ kept-refunded e (Correction n s amount) a b c = refl
 kept-expired : (e : Entry) (d : Data) → rawWith e (expiredOf d) ≡ rawWith e d
 unfolding expiredOf
 kept-expired e Unused = refl
-kept-expired e (Contribution amount built phases held toArrears paidOut retained added closed) = refl
+kept-expired e (Contribution phases built added closed amount held toArrears paidOut retained) = refl
 kept-expired e (AddedCustomer n s shared phases) = refl
 kept-expired e (Bill charge period served standing corrected) = refl
 kept-expired e (Payment amount standing corrected) = refl
@@ -153,7 +153,7 @@ kept-expired e (Correction n s amount) = refl
 kept-restated : (e : Entry) (d : Data) (c : Cents) → rawWith e (restatedOf d c) ≡ rawWith e d
 unfolding restatedOf
 kept-restated e Unused c = refl
-kept-restated e (Contribution amount built phases held toArrears paidOut retained added closed) c = refl
+kept-restated e (Contribution phases built added closed amount held toArrears paidOut retained) c = refl
 kept-restated e (AddedCustomer n s shared phases) c = refl
 kept-restated e (Bill charge period served standing corrected) c = refl
 kept-restated e (Payment amount standing corrected) c = refl

@@ -24,7 +24,7 @@ entryWith e d =
 range-with : (e : Entry) (d : Data) (us : List Val) → Owned (entryWith e d) us → InRange (recordOf (entryWith e d))
 unfolding rawOf
 range-with e Unused us s = omega arith
-range-with e (Contribution amount built phases held toArrears paidOut retained added closed) us s = omega arith
+range-with e (Contribution phases built added closed amount held toArrears paidOut retained) us s = omega arith
 range-with e (AddedCustomer n m shared phases) us s = omega arith
 range-with e (Bill charge period served standing corrected) us s = omega arith
 range-with e (Payment amount standing corrected) us s = omega arith

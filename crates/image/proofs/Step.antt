@@ -108,7 +108,7 @@ named-before b r x i g p f n = by (ltb i (b .count)) refl
 raw-common : (e : Entry) (after d : Data) → rawWith (withOf e after) d ≡ rawWith e d
 unfolding withOf
 raw-common e after Unused = refl
-raw-common e after (Contribution amount built phases held toArrears paidOut retained added closed) = refl
+raw-common e after (Contribution phases built added closed amount held toArrears paidOut retained) = refl
 raw-common e after (AddedCustomer n s shared phases) = refl
 raw-common e after (Bill charge period served standing corrected) = refl
 raw-common e after (Payment amount standing corrected) = refl

@@ -32,7 +32,7 @@ rawFrom k e amount namedSerial a b namedNode =
 -- a field that its kind does not list is zero
 abbrev pub rawWith : Entry → Data → Raw
 rawWith e Unused = rawFrom kind.Unknown e (cents 0) 0 0 0 0
-rawWith e (Contribution amount built phases held toArrears paidOut retained added closed) =
+rawWith e (Contribution phases built added closed amount held toArrears paidOut retained) =
     rawFrom kind.Contribution e amount 0 (built .0) phases 0
 rawWith e (AddedCustomer namedNode namedSerial shared phases) =
     rawFrom kind.AddedCustomer e (cents 0) namedSerial (shared .0) phases namedNode

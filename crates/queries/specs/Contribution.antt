@@ -48,7 +48,7 @@ notOnChain = contributionReplyOf (Refused no.NotOnChain)
 -- a contribution's figures; no other entry has them, nor an unused one
 unfoldable pub figuresOf : Data → ContributionReply
 figuresOf Unused = notOnChain
-figuresOf (Contribution amount built phases held toArrears paidOut retained added closed) =
+figuresOf (Contribution phases built added closed amount held toArrears paidOut retained) =
     reply 0 (amount .0) (toArrears .0) (paidOut .0) (held .0) (retained .0) added closed
 figuresOf (AddedCustomer node serial shared phases) = notOnChain
 figuresOf (Bill charge period served standing corrected) = notOnChain

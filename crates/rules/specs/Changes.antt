@@ -41,7 +41,7 @@ aloneOf acc d amounts = changeOf acc d Nothing data′.Unused amounts
 unfoldable pub contributionOf : Raw → Account → Change
 contributionOf r acc =
     let amount = cents (r .amount) in
-    aloneOf acc (data′.Contribution amount (metres (r .a)) (r .b) amount (cents 0) (cents 0) (cents 0) 0 false) nothingOf
+    aloneOf acc (data′.Contribution (r .b) (metres (r .a)) 0 false amount amount (cents 0) (cents 0) (cents 0)) nothingOf
 
 -- 2: held falls by the refund; it is credited; what is left over is paid out
 unfoldable pub addedCustomerOf : Raw → Account → Found → Data → Outcome

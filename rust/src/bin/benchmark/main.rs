@@ -18,7 +18,7 @@ use std::path::Path;
 use timing::{measure, Side, Times};
 
 /// Bytes of the proved book.
-const PROVED_BYTES: usize = 87_056;
+const PROVED_BYTES: usize = 78_864;
 
 fn main() {
     table::print_head();

@@ -1,6 +1,8 @@
 use mathlib.Core.Path.{sym, _∙_}
+use native.Mathlib.Omega.{arith}
 use borrow.Author.Needs.{needs}
 use Rattle.book.specs.Chain.{placeOf}
+use Rattle.book.proofs.Chain.{link-inside}
 use Rattle.book.proofs.Search.place.Statement.{statement}
 use Rattle.book.proofs.Search.place.Tie as tie
 
@@ -11,15 +13,15 @@ returns : tie.Need-returns
 unfolding placeOf
 returns c = simp (sym (c .before .ends .ensures) ∙ c .if1 .taken)
 
-less-one-requires : tie.Need-less-one-requires
-less-one-requires c κs = search needs
-
 cast-result : tie.Need-cast-result
 cast-result c = search needs
 
+sub-result : tie.Need-sub-result
+sub-result c = omega (arith, link-inside (c .before .before .before .args .self .at) (sym (c .before .before .ends .ensures) ∙ c .before .if1 .left))
+
 returns-2 : tie.Need-returns-2
 unfolding placeOf
-returns-2 c = simp (sym (c .before .before .ends .ensures) ∙ c .before .if1 .left, c .less-one .ensures)
+returns-2 c = simp (sym (c .before .before .ends .ensures) ∙ c .before .if1 .left)
 
 pub place-spec : {M : Type 1} → statement M
-place-spec = tie.close (tie.spec ends-requires returns less-one-requires cast-result returns-2)
+place-spec = tie.close (tie.spec ends-requires returns cast-result sub-result returns-2)
