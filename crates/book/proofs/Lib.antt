@@ -1,3 +1,4 @@
 pub mod Chain
 pub mod Searches
 pub mod Posting
+pub mod Figures

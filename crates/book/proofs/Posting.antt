@@ -2,11 +2,12 @@
 use Prim.Native.Nat.{ℕ, _+_, _<_, _≤_}
 use mathlib.Core.List.{List, [], _∷_, _++_}
 use lib.ListN.{length, getD, set}
-use mathlib.Core.Path.{_≡_, refl}
+use mathlib.Core.Path.{_≡_, refl, sym, ap, _∙_}
+use mathlib.Core.Bool.{Bool, true, false, cond}
 use native.Mathlib.Omega.{arith}
 use borrow.Author.Tests.{leb-false}
-use Rattle.entries.specs.Kinds.{kindOf}
-use Rattle.entries.specs.Entries.{entryOf, withOf}
+use Rattle.entries.specs.Kinds.{kindOf, sameOf, namesOf}
+use Rattle.entries.specs.Entries.{noEntry, entryOf, withOf}
 use Rattle.entries.specs.declared.raw.Raw.{Raw}
 use Rattle.entries.specs.declared.kinds.Kind.{Kind}
 use Rattle.entries.specs.declared.kinds.Kind.the-variants as kind
@@ -18,8 +19,7 @@ use Rattle.entries.specs.declared.refusals.Refusal.{Refusal}
 use Rattle.entries.proofs.Rows.{silent}
 use Rattle.rules.specs.Accounts.{noAccount, numberedOf}
 use Rattle.rules.specs.Answers.{replyOf}
-use Rattle.rules.specs.Checks.{stateRows, checkStateOf}
-use Rattle.rules.specs.Changes.{answerOf, addedCustomerOf, expiryOf, correctionOf, contributionOf, billOf, paymentOf, depositOf, depositReturnOf, effectOf}
+use Rattle.rules.specs.Changes.{answerOf, addedCustomerOf, expiryOf, correctionOf, contributionOf, billOf, paymentOf, depositOf, depositReturnOf, ownChangeOf, namingChangeOf, decidedOf, ownOutcomeOf, namingOutcomeOf}
 use Rattle.rules.specs.declared.accounts.Account.{Account}
 use Rattle.rules.specs.declared.answers.Answer.{Answer}
 use Rattle.rules.specs.declared.answers.Answer.the-variants as answer
@@ -29,10 +29,10 @@ use Rattle.rules.specs.declared.changes.Found.the-variants.{At, Nothing}
 use Rattle.rules.specs.declared.changes.Outcome.{Outcome}
 use Rattle.rules.specs.declared.changes.Outcome.the-variants.{Refused, Accepted}
 use Rattle.book.specs.Fresh.{entriesMost}
-use Rattle.book.specs.Refusals.{entryRows, checkEntryOf, decidedOf, outcomeOf}
+use Rattle.book.specs.Refusals.{entryRows, checkEntryOf, searchedOf, outcomeOf}
 use Rattle.book.specs.Serials.{lastOf, afterOf}
-use Rattle.book.specs.Chain.{slotOf, startOf}
-use Rattle.book.specs.Posting.{accountAt, namedAt, lookupOf, rewritten, storedOf, bookAfter, decisionOf, postOf, postsOf}
+use Rattle.book.specs.Chain.{slotOf, startOf, soughtIn}
+use Rattle.book.specs.Posting.{accountAt, lookupOf, rewritten, storedOf, bookAfter, decisionOf, postOf, postsOf}
 use Rattle.book.specs.declared.Book.{Book}
 use Rattle.book.specs.declared.Serials.{Serials}
 use Rattle.book.proofs.Chain.{Inside, find-inside}
@@ -44,42 +44,45 @@ decided-passed (check.Refused n) o x e = let z : _≡_ {A = ℕ} 0 1 = cc in abs
 
 -- an accepted entry found the book not full
 pub room : (b : Book) (r : Raw) (x : Change) → decisionOf b r ≡ Accepted x → b .count < entriesMost
-unfolding decisionOf outcomeOf checkStateOf checkEntryOf
+unfolding decisionOf outcomeOf checkEntryOf
 room b r x e =
     let passed = decided-passed _ _ x e .0 in
-    let early = silent _ (stateRows r (kindOf (r .kind)) (accountAt b (r .account)) (namedAt b r)) passed .0 in
-    let rows = silent _ (entryRows r (kindOf (r .kind)) (b .count) (lastOf (b .last) (r .node))) early .1 in
+    let rows = silent _ (entryRows r (kindOf (r .kind)) (b .count) (lastOf (b .last) (r .node))) passed .1 in
     leb-false entriesMost (b .count) (rows .1 .1 .1 .1 .1 .1 .0)
 
 -- what an accepted entry names is what the search found
-abbrev NamesFound : Found → Outcome → Type 0
-NamesFound f (Refused n) = Unit {0}
-NamesFound f (Accepted c) = (i : ℕ) → c .names ≡ At i → f ≡ At i
+same-names : (t : Bool) (x y : Change) (f : Found) → x .names ≡ f → y .names ≡ f → cond t x y .names ≡ f
+same-names true x y f p q = p
+same-names false x y f p q = q
 
-names-nothing : (f : Found) (i : ℕ) → Nothing ≡ At i → f ≡ At i
-names-nothing f i e = let z : _≡_ {A = ℕ} 0 1 = cc in absurd (omega arith)
+own-names : (r : Raw) (k : Kind) (acc : Account) → ownChangeOf r k acc .names ≡ Nothing
+unfolding ownChangeOf contributionOf billOf paymentOf depositOf depositReturnOf
+own-names r k acc =
+    same-names (sameOf k kind.Contribution) _ _ Nothing refl
+    (same-names (sameOf k kind.Bill) _ _ Nothing refl
+    (same-names (sameOf k kind.Payment) _ _ Nothing refl (same-names (sameOf k kind.Deposit) _ _ Nothing refl refl)))
 
-effect-found : (r : Raw) (k : Kind) (acc : Account) (f : Found) (d : Data) → NamesFound f (effectOf r k acc f d)
-unfolding effectOf addedCustomerOf expiryOf correctionOf contributionOf billOf paymentOf depositOf depositReturnOf
-effect-found r kind.Unknown acc f d = tt
-effect-found r kind.Contribution acc f d = names-nothing f
-effect-found r kind.AddedCustomer acc (At n) d = λ i e. e
-effect-found r kind.AddedCustomer acc Nothing d = tt
-effect-found r kind.Bill acc f d = names-nothing f
-effect-found r kind.Payment acc f d = names-nothing f
-effect-found r kind.Deposit acc f d = names-nothing f
-effect-found r kind.DepositReturn acc f d = names-nothing f
-effect-found r kind.Expiry acc (At n) d = λ i e. e
-effect-found r kind.Expiry acc Nothing d = tt
-effect-found r kind.Correction acc (At n) d = λ i e. e
-effect-found r kind.Correction acc Nothing d = tt
+naming-names : (r : Raw) (k : Kind) (acc : Account) (i : ℕ) (d : Data) → namingChangeOf r k acc i d .names ≡ At i
+unfolding namingChangeOf addedCustomerOf expiryOf correctionOf
+naming-names r k acc i d =
+    same-names (sameOf k kind.AddedCustomer) _ _ (At i) refl (same-names (sameOf k kind.Expiry) _ _ (At i) refl refl)
 
 pub names-found : (b : Book) (r : Raw) (x : Change) (i : ℕ) → decisionOf b r ≡ Accepted x → x .names ≡ At i → lookupOf b r ≡ At i
-unfolding decisionOf outcomeOf
-names-found b r x i e n =
-    let effect = decided-passed _ _ x e .1 in
-    let found : NamesFound (lookupOf b r) (Accepted x) = rw effect at (effect-found r (kindOf (r .kind)) (accountAt b (r .account)) (lookupOf b r) (namedAt b r .«data»)) in
-    found i n
+unfolding decisionOf outcomeOf searchedOf soughtIn ownOutcomeOf namingOutcomeOf
+names-found b r x i e n = go (namesOf (kindOf (r .kind))) (lookupOf b r) (decided-passed _ _ x e .1)
+  where
+    is : (c : Check) (y : Change) → decidedOf c (Accepted y) ≡ Accepted x → y ≡ x
+    is c y q = let same = decided-passed c (Accepted y) x q .1 in cc
+
+    go : (t : Bool) (f : Found) →
+        cond t (searchedOf r (kindOf (r .kind)) (accountAt b (r .account)) (soughtIn (b .entries) f)) (ownOutcomeOf r (kindOf (r .kind)) (accountAt b (r .account))) ≡ Accepted x →
+        f ≡ At i
+    go true Nothing q = let z : _≡_ {A = ℕ} 0 1 = cc in absurd (omega arith)
+    go true (At j) q = sym (naming-names r _ _ j _) ∙ ap (λ (y : Change). y .names) (is _ _ q) ∙ n
+    go false f q =
+        let none : Nothing ≡ At i = sym (own-names r _ _) ∙ ap (λ (y : Change). y .names) (is _ _ q) ∙ n in
+        let z : _≡_ {A = ℕ} 0 1 = cc in
+        absurd (omega arith)
 
 -- and it stands in the array
 pub names-inside : (b : Book) (r : Raw) (x : Change) (i : ℕ) → decisionOf b r ≡ Accepted x → x .names ≡ At i → i < entriesMost
@@ -92,15 +95,19 @@ pub post-refused : (b : Book) (r : Raw) (n : Refusal) → decisionOf b r ≡ Ref
 unfolding postOf bookAfter answerOf
 post-refused b r n e = simp e
 
+-- the store of the named entry, which was read at place p
+pub rewrites-at : (es next : List Entry) (i p : ℕ) (d : Data) (w : Entry) → w ≡ withOf (getD es p noEntry) d → p ≡ i → set next i w ≡ rewritten es (At i) d next
+rewrites-at es next i p d w e q = rw (e, q) refl
+
 -- what the stores of an accepted entry make of the book
-pub post-accepted : (b : Book) (r : Raw) (x : Change) (o : Outcome) (a n : ℕ) (acc : Account) (new w : Entry) (f : Found) (l : Serials) (ans : Answer) →
+pub post-accepted : (b : Book) (r : Raw) (x : Change) (o : Outcome) (a n : ℕ) (acc : Account) (new : Entry) (next : List Entry) (f : Found) (l : Serials) (ans : Answer) →
     o ≡ decisionOf b r → o ≡ Accepted x → a ≡ slotOf (r .account) → n ≡ b .count + 1 → acc ≡ numberedOf (x .account) n →
-    new ≡ entryOf r (getD (b .accounts) a noAccount .newest) (x .«data») → w ≡ withOf (namedAt b r) (x .named) →
-    x .names ≡ f → l ≡ afterOf (b .last) r → ans ≡ answerOf o n →
-    record { book = record { accounts = set (b .accounts) a acc; entries = rewritten f w (set (b .entries) (b .count) new); count = n; last = l }; reply = replyOf ans } ≡ postOf b r
+    new ≡ entryOf r (getD (b .accounts) a noAccount .newest) (x .«data») → x .names ≡ f →
+    next ≡ rewritten (b .entries) f (x .named) (set (b .entries) (b .count) new) → l ≡ afterOf (b .last) r → ans ≡ answerOf o n →
+    record { book = record { accounts = set (b .accounts) a acc; entries = next; count = n; last = l }; reply = replyOf ans } ≡ postOf b r
 unfolding postOf bookAfter storedOf
-post-accepted b r x o a n acc new w f l ans decided accepted slot number numbered entry with names after answered =
-    rw (answered, after, ← names, with, entry, numbered, number, slot, ← decided, accepted) refl
+post-accepted b r x o a n acc new next f l ans decided accepted slot number numbered entry names rewrites after answered =
+    rw (answered, after, rewrites, ← names, entry, numbered, number, slot, ← decided, accepted) refl
 
 -- ---- lists of postings
 
@@ -114,7 +121,7 @@ post-count : (b : Book) (r : Raw) → postOf b r .book .count ≤ b .count + 1
 unfolding postOf bookAfter storedOf
 post-count b r = by (decisionOf b r)
   where
-    by : (o : Outcome) → bookAfter b r (namedAt b r) o .count ≤ b .count + 1
+    by : (o : Outcome) → bookAfter b r o .count ≤ b .count + 1
     by (Refused n) = omega arith
     by (Accepted c) = omega arith
 

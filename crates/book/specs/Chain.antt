@@ -40,7 +40,11 @@ findIn es r (suc fuel) at =
     let e = getD es (at - 1) noEntry in
     cond (endsOf at) Nothing (cond (pointsAt r e) (At (at - 1)) (findIn es r fuel (e .next)))
 
--- the entry found, or an unused one
-unfoldable pub entryAt : List Entry → Found → Entry
-entryAt es Nothing = noEntry
-entryAt es (At i) = getD es i noEntry
+-- what a search ends in: the place of the named entry, and the entry
+pub data Sought : Type 0 where
+  missing : Sought
+  found : ℕ → Entry → Sought
+
+unfoldable pub soughtIn : List Entry → Found → Sought
+soughtIn es Nothing = missing
+soughtIn es (At i) = found i (getD es i noEntry)

@@ -4,3 +4,4 @@ pub mod Chain
 pub mod Search
 pub mod Refusals
 pub mod Posting
+pub mod Figures

@@ -1,25 +1,23 @@
--- Refused, in checking order: 1 to 7 here, 8 to 16 in the rules' stateRows.
+-- Refused, in checking order: 1 to 7 here, 8 to 16 in the rules' ownRows and namingRows.
 use Prim.Native.Nat.{ℕ}
-use mathlib.Core.Bool.{not}
+use mathlib.Core.Bool.{cond, not}
 use mathlib.Core.List.{List, [], _∷_}
 use lib.Dec.{leb, ltb}
-use Rattle.entries.specs.Kinds.{kindOf, sameOf}
+use Rattle.entries.specs.Kinds.{kindOf, sameOf, namesOf}
 use Rattle.entries.specs.Ranges.{between, inRangeOf}
 use Rattle.entries.specs.Refusals.{Row, _⇒_, firstOf}
 use Rattle.entries.specs.declared.raw.Raw.{Raw}
 use Rattle.entries.specs.declared.kinds.Kind.{Kind}
 use Rattle.entries.specs.declared.kinds.Kind.the-variants as kind
-use Rattle.entries.specs.declared.data.Entry.{Entry}
 use Rattle.entries.specs.declared.refusals.Refusal.the-variants as no
 use Rattle.entries.specs.declared.refusals.Check.{Check}
 use Rattle.entries.specs.declared.refusals.Check.the-variants as check
-use Rattle.rules.specs.Checks.{checkStateOf}
-use Rattle.rules.specs.Changes.{effectOf}
+use Rattle.rules.specs.Changes.{decidedOf, ownOutcomeOf, namingOutcomeOf}
 use Rattle.rules.specs.declared.accounts.Account.{Account}
-use Rattle.rules.specs.declared.changes.Found.{Found}
 use Rattle.rules.specs.declared.changes.Outcome.{Outcome}
 use Rattle.rules.specs.declared.changes.Outcome.the-variants.{Refused}
 use Rattle.book.specs.Fresh.{accountsMost, entriesMost}
+use Rattle.book.specs.Chain.{Sought, missing, found}
 
 -- 2099-12-31
 abbrev pub lastDay : ℕ
@@ -39,12 +37,13 @@ entryRows r k count last =
 unfoldable pub checkEntryOf : Raw → Kind → ℕ → ℕ → Check
 checkEntryOf r k count last = firstOf check.Passed (entryRows r k count last)
 
--- an entry is refused by the first rule that it breaks, or has its effect
-unfoldable pub decidedOf : Check → Outcome → Outcome
-decidedOf (check.Refused n) o = Refused n
-decidedOf check.Passed o = o
+-- of an entry that names another: where the chain yields no such entry, the posting stops with refusal 8
+unfoldable pub searchedOf : Raw → Kind → Account → Sought → Outcome
+searchedOf r k acc missing = Refused no.NotOnChain
+searchedOf r k acc (found i e) = namingOutcomeOf r k acc i e
 
-unfoldable pub outcomeOf : Raw → ℕ → ℕ → Account → Found → Entry → Outcome
-outcomeOf r count last acc f e =
+-- 1 to 7 first; then an entry goes on with its own rows, or with those about the entry that it names
+unfoldable pub outcomeOf : Raw → ℕ → ℕ → Account → Sought → Outcome
+outcomeOf r count last acc s =
     let k = kindOf (r .kind) in
-    decidedOf (checkStateOf (checkEntryOf r k count last) r k acc e) (effectOf r k acc f (e .«data»))
+    decidedOf (checkEntryOf r k count last) (cond (namesOf k) (searchedOf r k acc s) (ownOutcomeOf r k acc))

@@ -2,13 +2,13 @@
 use Prim.Native.Nat.{ℕ, _-_}
 use mathlib.Core.Bool.{Bool, false, cond, not, _&&_}
 use Rattle.entries.specs.Kinds.{kindOf}
-use Rattle.entries.specs.Entries.{noEntry, pointsAt}
+use Rattle.entries.specs.Entries.{pointsAt}
 use Rattle.entries.specs.declared.raw.Raw.{Raw}
 use Rattle.entries.specs.declared.data.Entry.{Entry}
 use Rattle.rules.specs.declared.changes.Found.{Found}
 use Rattle.rules.specs.declared.changes.Found.the-variants.{At, Nothing}
 use Rattle.book.specs.Fresh.{entriesMost}
-use Rattle.book.specs.Chain.{placeOf, startOf, walksOf}
+use Rattle.book.specs.Chain.{placeOf, startOf, walksOf, Sought, missing, found}
 use Rattle.book.specs.declared.Search.{Search}
 
 unfoldable pub searchOf : Raw → ℕ → Search
@@ -21,9 +21,10 @@ goesOnOf s = not (s .found) && walksOf (s .at) (s .left)
 unfoldable pub pastOf : Search → Raw → Entry → Search
 pastOf s r e = record { at = cond (pointsAt r e) (s .at) (e .next); left = s .left - 1; found = pointsAt r e }
 
--- what it has found, and the entry there, where e is the one that it stands at
-unfoldable pub soughtOf : Search → Found
-soughtOf s = cond (s .found) (At (placeOf (s .at))) Nothing
+-- what it has found
+unfoldable pub foundOf : Search → Found
+foundOf s = cond (s .found) (At (placeOf (s .at))) Nothing
 
-unfoldable pub soughtEntry : Search → Entry → Entry
-soughtEntry s e = cond (s .found) e noEntry
+-- with the entry, where e is the one that it stands at
+unfoldable pub soughtOf : Search → Entry → Sought
+soughtOf s e = cond (s .found) (found (placeOf (s .at)) e) missing

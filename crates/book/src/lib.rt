@@ -12,14 +12,14 @@ use rules::Account;
 use rules::Answer;
 use rules::Found;
 use rules::Outcome;
-use rules::check_state;
-use rules::effect;
+use rules::naming_outcome;
+use rules::own_outcome;
 ghost use mathlib.Core.Path.{_≡_};
 ghost use Prim.Native.Nat.{_-_};
 ghost use Rattle.book.specs.Fresh.{freshBook};
 ghost use Rattle.book.specs.Serials.{lastOf, afterOf};
 ghost use Rattle.book.specs.Chain.{slotOf, endsOf, placeOf, startOf};
-ghost use Rattle.book.specs.Search.{searchOf, goesOnOf, pastOf, soughtOf, soughtEntry};
+ghost use Rattle.book.specs.Search.{searchOf, goesOnOf, pastOf, foundOf, soughtOf};
 ghost use Rattle.book.specs.Refusals.{checkEntryOf, outcomeOf};
 ghost use Rattle.book.specs.Posting.{resultOf, postOf};
 
@@ -161,22 +161,12 @@ impl Search {
     }
 
     pub fn lookup(self) -> Found
-        ensures { λ r. ⌜ r ≡ soughtOf self ⌝ }
+        ensures { λ r. ⌜ r ≡ foundOf self ⌝ }
     {
         if self.found {
             return Found::At(self.place());
         }
         Found::Nothing
-    }
-
-    // The entry that it stands at where it has found one, and else an unused one.
-    pub fn named(self, entry: Entry) -> Entry
-        ensures { λ r. ⌜ r ≡ soughtEntry self entry ⌝ }
-    {
-        if self.found {
-            return entry;
-        }
-        Entry::unused()
     }
 }
 
@@ -206,16 +196,20 @@ pub fn outcome(
     search: Search,
     entry: Entry,
 ) -> Outcome
-    ensures { λ r. ⌜ r ≡ outcomeOf raw count (lastOf last (raw .node)) account (soughtOf search) (soughtEntry search entry) ⌝ }
+    ensures { λ r. ⌜ r ≡ outcomeOf raw count (lastOf last (raw .node)) account (soughtOf search entry) ⌝ }
 {
     let kind = Kind::of(raw.kind);
-    let named = search.named(entry);
-    let early = check_entry(raw, kind, count, last.of(raw.node));
-    if let Check::Refused(refusal) = check_state(early, raw, kind, account, named) {
+    if let Check::Refused(refusal) = check_entry(raw, kind, count, last.of(raw.node)) {
         return Outcome::Refused(refusal);
     }
-    let what = named.data;
-    effect(raw, kind, account, search.lookup(), what)
+    if !kind.names() {
+        return own_outcome(raw, kind, account);
+    }
+    let lookup = search.lookup();
+    let Found::At(i) = lookup else {
+        return Outcome::Refused(Refusal::NotOnChain);
+    };
+    naming_outcome(raw, kind, account, i, entry)
 }
 
 impl Book {

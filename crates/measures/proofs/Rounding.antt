@@ -6,7 +6,7 @@ use lib.Dec.{ltb}
 use borrow.Author.Tests.{ltb-true, ltb-false}
 use native.Mathlib.Nat.{le-div-iff-mul-le, div-lt-iff-lt-mul, add-mul, one-mul, mul-left-comm, div-add-mod', mod-lt, mul-le-mul-right, div-mul-le-self, lt-div-mul-add}
 use native.Mathlib.Omega.{arith}
-use Rattle.measures.specs.Rounding.{rounded, gap, Rounds}
+use Rattle.measures.specs.Rounding.{rounded, gap, Rounds, Floors}
 
 pub above : {n : ℕ} → (n ≡ 0 → ⊥) → 0 < n
 above h = omega arith
@@ -76,3 +76,6 @@ rounds n d hd =
           let e : (m + 1) * d ≡ m * d + d = add-mul m 1 d ∙ ap (λ (z : ℕ). m * d + z) (one-mul d) in
           rounded-between n d (m + 1) hd (omega arith) (omega arith);
     }
+
+pub floors : Floors
+floors n d hd = record { fits = div-mul-le-self n d; greatest = λ m h. le-div-iff-mul-le hd .1 h }

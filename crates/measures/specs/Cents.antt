@@ -1,10 +1,13 @@
--- Sums and products of cents. They stop at 2^64 - 1, differences at 0, and a quotient by 0 is 0.
-use Prim.Native.Nat.{ℕ, _+_, _-_, _*_, _/_, min}
+-- Sums and products of cents. They stop at 2^64 - 1, differences at 0.
+use Prim.Native.Nat.{ℕ, _+_, _-_, _*_, min}
 use Rattle.measures.specs.Rounding.{rounded}
 use Rattle.measures.specs.declared.Cents.{Cents}
 
 abbrev pub most : ℕ
 most = 18446744073709551615
+
+abbrev pub productOf : ℕ → ℕ → ℕ
+productOf a b = min (a * b) most
 
 abbrev pub cents : ℕ → Cents
 cents n = record { 0 = n }
@@ -19,10 +22,7 @@ abbrev pub leastOf : Cents → Cents → Cents
 leastOf a b = cents (min (a .0) (b .0))
 
 abbrev pub timesOf : Cents → ℕ → Cents
-timesOf a n = cents (min (a .0 * n) most)
-
-abbrev pub overOf : Cents → ℕ → Cents
-overOf a d = cents (a .0 / d)
+timesOf a n = cents (productOf (a .0) n)
 
 abbrev pub roundedOf : Cents → ℕ → Cents
 roundedOf a d = cents (rounded (a .0) d)

@@ -1,4 +1,4 @@
--- Rounding (document 01, kinds 3 and 6): one definition and one law, for any divisor.
+-- Rounding (document 01: to the nearest in kinds 3 and 6, down in kind 2): one law of each, for any divisor.
 use Prim.Native.Nat.{ℕ, _+_, _-_, _*_, _/_, _<_, _≤_}
 use mathlib.Core.Path.{_≡_}
 
@@ -18,3 +18,12 @@ pub record Nearest (n d q : ℕ) : Type 0 where
 -- the law, for any divisor; proofs/Rounding.antt shows it
 abbrev pub Rounds : Type 0
 Rounds = (n d : ℕ) → 0 < d → Nearest n d (rounded n d)
+
+-- q is n / d rounded down: the greatest number whose multiple by d is at most n
+pub record Floor (n d q : ℕ) : Type 0 where
+  pub fits : q * d ≤ n
+  pub greatest : (m : ℕ) → m * d ≤ n → m ≤ q
+
+-- a quotient is rounded down; proofs/Rounding.antt shows it
+abbrev pub Floors : Type 0
+Floors = (n d : ℕ) → 0 < d → Floor n d (n / d)

@@ -1,6 +1,7 @@
 // Measures: whole cents, days from 2000-01-01, whole metres. Each is a type of its own, so that no sum mixes two of them.
 ghost use mathlib.Core.Path.{_≡_};
-ghost use Rattle.measures.specs.Cents.{plusOf, minusOf, leastOf, timesOf, overOf, roundedOf};
+ghost use Prim.Native.Nat.{_/_, min};
+ghost use Rattle.measures.specs.Cents.{productOf, plusOf, minusOf, leastOf, timesOf, roundedOf};
 ghost use Rattle.measures.specs.Days.{sinceOf};
 
 pub struct Cents(pub u64);
@@ -9,6 +10,33 @@ pub struct Cents(pub u64);
 pub struct Day(pub u16);
 
 pub struct Metres(pub u16);
+
+// The product, and 2^64 - 1 where it does not fit.
+pub fn product(a: u64, b: u64) -> u64
+    ensures { λ r. ⌜ r ≡ productOf a b ⌝ }
+{
+    if b == 0 {
+        return 0;
+    }
+    if a <= Cents::MOST / b {
+        a * b
+    } else {
+        Cents::MOST
+    }
+}
+
+// The quotient rounded down, and 0 by 0.
+pub fn quotient(a: u64, divisor: u64) -> u64
+    ensures { λ r. ⌜ r ≡ a / divisor ⌝ }
+{
+    if divisor == 0 { 0 } else { a / divisor }
+}
+
+pub fn smaller(a: u64, b: u64) -> u64
+    ensures { λ r. ⌜ r ≡ min a b ⌝ }
+{
+    if b <= a { b } else { a }
+}
 
 impl Cents {
     pub const MOST: u64 = 18446744073709551615;
@@ -35,36 +63,17 @@ impl Cents {
         }
     }
 
-    // The smaller of the two.
     pub fn least(self, other: Cents) -> Cents
         ensures { λ r. ⌜ r ≡ leastOf self other ⌝ }
     {
-        if other.0 <= self.0 { other } else { self }
+        Cents(smaller(self.0, other.0))
     }
 
     // The product, and the largest amount where it does not fit.
     pub fn times(self, n: u64) -> Cents
         ensures { λ r. ⌜ r ≡ timesOf self n ⌝ }
     {
-        if n == 0 {
-            return Cents(0);
-        }
-        if self.0 <= Cents::MOST / n {
-            Cents(self.0 * n)
-        } else {
-            Cents(Cents::MOST)
-        }
-    }
-
-    // The quotient rounded down, and 0 by 0.
-    pub fn over(self, divisor: u64) -> Cents
-        ensures { λ r. ⌜ r ≡ overOf self divisor ⌝ }
-    {
-        if divisor == 0 {
-            Cents(0)
-        } else {
-            Cents(self.0 / divisor)
-        }
+        Cents(product(self.0, n))
     }
 
     // The quotient to the nearest cent, an exact half upwards, and 0 by 0.

@@ -1,20 +1,20 @@
 -- No product of an entry in range reaches the limit, so the code's formulas are document 01's.
-use Prim.Native.Nat.{ℕ, _-_, _*_, _≤_, min}
+use Prim.Native.Nat.{ℕ, _+_, _-_, _*_, _<_, _≤_, min}
 use mathlib.Core.Path.{_≡_, refl, ap, _∙_}
 use mathlib.Core.Bool.{true}
 use borrow.Author.Tests.{leb-true}
-use native.Mathlib.Nat.{mul-le-mul, min-eq-left}
+use native.Mathlib.Nat.{mul-le-mul, mul-pos, min-eq-left}
 use native.Mathlib.Omega.{arith}
 use Rattle.measures.specs.Cents.{cents, most}
 use Rattle.measures.specs.declared.Cents.{Cents}
 use Rattle.measures.specs.Rounding.{rounded}
-use Rattle.measures.proofs.Rounding.{rounds}
+use Rattle.measures.proofs.Rounding.{rounds, floors}
 use Rattle.entries.specs.Ranges.{amountMost, limitsOf, bFits, inRangeOf}
 use Rattle.entries.specs.Entries.{metres}
 use Rattle.entries.specs.declared.raw.Raw.{Raw}
 use Rattle.entries.specs.declared.kinds.Kind.the-variants as kind
 use Rattle.entries.proofs.Ranges.{ranged}
-use Rattle.rules.specs.Formulas.{refund, billedOf, refundOf, interestOf, Plain, PlainEntries, RoundedNearest}
+use Rattle.rules.specs.Formulas.{refund, billedOf, refundOf, interestOf, Plain, PlainEntries, RoundedNearest, RefundFloor}
 
 -- a product of two numbers within bounds whose product fits
 fits : (m n a b : ℕ) → a ≤ m → b ≤ n → m * n ≤ most → min (a * b) most ≡ a * b
@@ -62,3 +62,8 @@ rounded-nearest =
       bill = λ charge served period h. rounds (charge * served) period h;
       deposit-return = λ deposit rate t. rounds (deposit * rate * t) 3650000 (omega arith);
     }
+
+pub refund-floor : RefundFloor
+refund-floor held contribution shared built added h =
+    let d : 0 < built * (added + 2) = mul-pos h (omega arith) in
+    (_, floors (contribution * shared) (built * (added + 2)) d, refl)

@@ -1,6 +1,6 @@
 -- What an entry of each kind does to its account and to the entry that it names.
 use Prim.Native.Nat.{ℕ}
-use mathlib.Core.Bool.{Bool, true, false}
+use mathlib.Core.Bool.{Bool, true, false, cond}
 use Rattle.measures.specs.Cents.{cents, plusOf, minusOf}
 use Rattle.measures.specs.Days.{day, sinceOf}
 use Rattle.measures.specs.declared.Cents.{Cents}
@@ -12,9 +12,12 @@ use Rattle.entries.specs.declared.kinds.Kind.{Kind}
 use Rattle.entries.specs.declared.kinds.Kind.the-variants as kind
 use Rattle.entries.specs.declared.data.Data.{Data}
 use Rattle.entries.specs.declared.data.Data.the-variants as data′
-use Rattle.entries.specs.declared.refusals.Refusal.the-variants as no
+use Rattle.entries.specs.declared.data.Entry.{Entry}
+use Rattle.entries.specs.declared.refusals.Check.{Check}
+use Rattle.entries.specs.declared.refusals.Check.the-variants as check
 use Rattle.rules.specs.Accounts.{creditedOf, keptOf, chargedOf, holdingOf}
 use Rattle.rules.specs.Formulas.{billedOf, refundOf, interestOf}
+use Rattle.rules.specs.Checks.{checkOwnOf, checkNamingOf}
 use Rattle.rules.specs.Answers.{amountsOf}
 use Rattle.rules.specs.declared.accounts.Account.{Account}
 use Rattle.rules.specs.declared.answers.Amounts.{Amounts}
@@ -44,15 +47,13 @@ contributionOf r acc =
     aloneOf acc (data′.Contribution (r .b) (metres (r .a)) 0 false amount amount (cents 0) (cents 0) (cents 0)) nothingOf
 
 -- 2: held falls by the refund; it is credited; what is left over is paid out
-unfoldable pub addedCustomerOf : Raw → Account → Found → Data → Outcome
-addedCustomerOf r acc Nothing d = Refused no.NotOnChain
-addedCustomerOf r acc (At i) d =
+unfoldable pub addedCustomerOf : Raw → Account → ℕ → Data → Change
+addedCustomerOf r acc i d =
     let refund = refundOf (namedOf d) (metres (r .a)) in
     let credited = creditedOf acc refund in
-    Accepted
-    (changeOf (credited .account) (data′.AddedCustomer (r .«named_node») (r .«named_serial») (metres (r .a)) (r .b)) (At i)
+    changeOf (credited .account) (data′.AddedCustomer (r .«named_node») (r .«named_serial») (metres (r .a)) (r .b)) (At i)
     (refundedOf d refund (credited .settled) (credited .left))
-    (amountsOf (credited .settled) (credited .left) (cents 0) (cents 0)))
+    (amountsOf (credited .settled) (credited .left) (cents 0) (cents 0))
 
 -- 3: billed is charged
 unfoldable pub billOf : Raw → Account → Change
@@ -84,12 +85,10 @@ depositReturnOf r acc =
     (amountsOf (credited .settled) (credited .left) (cents 0) interest)
 
 -- 7: retained = held; held = 0; the contribution is closed
-unfoldable pub expiryOf : Raw → Account → Found → Data → Outcome
-expiryOf r acc Nothing d = Refused no.NotOnChain
-expiryOf r acc (At i) d =
-    Accepted
-    (changeOf acc (data′.Expiry (r .«named_node») (r .«named_serial»)) (At i) (expiredOf d)
-    (amountsOf (cents 0) (cents 0) (namedOf d .held) (cents 0)))
+unfoldable pub expiryOf : Raw → Account → ℕ → Data → Change
+expiryOf r acc i d =
+    changeOf acc (data′.Expiry (r .«named_node») (r .«named_serial»)) (At i) (expiredOf d)
+    (amountsOf (cents 0) (cents 0) (namedOf d .held) (cents 0))
 
 abbrev pub pickOf : Bool → Cents → Cents → Cents
 pickOf true a b = a
@@ -97,30 +96,43 @@ pickOf false a b = b
 
 -- 8: the standing amount becomes the new one. A bill that grows, or a payment that shrinks, charges the difference;
 -- the others credit it, what is left over going to credit. Of `up` and `down` at least one is 0, and moves nothing.
-unfoldable pub correctionOf : Raw → Account → Found → Data → Outcome
-correctionOf r acc Nothing d = Refused no.NotOnChain
-correctionOf r acc (At i) d =
+unfoldable pub correctionOf : Raw → Account → ℕ → Data → Change
+correctionOf r acc i d =
     let new = cents (r .amount) in
     let old = namedOf d .standing in
     let bill = sameOf (namedOf d .kind) kind.Bill in
     let up = minusOf new old in
     let down = minusOf old new in
     let credited = creditedOf (chargedOf acc (pickOf bill up down)) (pickOf bill down up) in
-    Accepted
-    (changeOf (keptOf (credited .account) (credited .left)) (data′.Correction (r .«named_node») (r .«named_serial») new) (At i)
-    (restatedOf d new) (amountsOf (credited .settled) (cents 0) (cents 0) (cents 0)))
+    changeOf (keptOf (credited .account) (credited .left)) (data′.Correction (r .«named_node») (r .«named_serial») new) (At i)
+    (restatedOf d new) (amountsOf (credited .settled) (cents 0) (cents 0) (cents 0))
 
--- what an entry that no check refused does; d is the named entry's data
-unfoldable pub effectOf : Raw → Kind → Account → Found → Data → Outcome
-effectOf r kind.Unknown acc f d = Refused no.UnknownKind
-effectOf r kind.Contribution acc f d = Accepted (contributionOf r acc)
-effectOf r kind.AddedCustomer acc f d = addedCustomerOf r acc f d
-effectOf r kind.Bill acc f d = Accepted (billOf r acc)
-effectOf r kind.Payment acc f d = Accepted (paymentOf r acc)
-effectOf r kind.Deposit acc f d = Accepted (depositOf r acc)
-effectOf r kind.DepositReturn acc f d = Accepted (depositReturnOf r acc)
-effectOf r kind.Expiry acc f d = expiryOf r acc f d
-effectOf r kind.Correction acc f d = correctionOf r acc f d
+-- what an entry that names nothing does: of kind 1, 3, 4, 5 or else 6
+unfoldable pub ownChangeOf : Raw → Kind → Account → Change
+ownChangeOf r k acc =
+    cond (sameOf k kind.Contribution) (contributionOf r acc)
+    (cond (sameOf k kind.Bill) (billOf r acc)
+    (cond (sameOf k kind.Payment) (paymentOf r acc)
+    (cond (sameOf k kind.Deposit) (depositOf r acc) (depositReturnOf r acc))))
+
+-- what an entry does that names the one at place i, of data d: of kind 2, 7 or else 8
+unfoldable pub namingChangeOf : Raw → Kind → Account → ℕ → Data → Change
+namingChangeOf r k acc i d =
+    cond (sameOf k kind.AddedCustomer) (addedCustomerOf r acc i d)
+    (cond (sameOf k kind.Expiry) (expiryOf r acc i d) (correctionOf r acc i d))
+
+-- an entry is refused by the first rule that it breaks, or has its effect
+unfoldable pub decidedOf : Check → Outcome → Outcome
+decidedOf (check.Refused n) o = Refused n
+decidedOf check.Passed o = o
+
+-- an entry that names nothing
+unfoldable pub ownOutcomeOf : Raw → Kind → Account → Outcome
+ownOutcomeOf r k acc = decidedOf (checkOwnOf r k acc) (Accepted (ownChangeOf r k acc))
+
+-- an entry that names e, which stands at place i
+unfoldable pub namingOutcomeOf : Raw → Kind → Account → ℕ → Entry → Outcome
+namingOutcomeOf r k acc i e = decidedOf (checkNamingOf r k e) (Accepted (namingChangeOf r k acc i (e .«data»)))
 
 -- the refusal's number; 0 means accepted
 unfoldable pub outcomeNumber : Outcome → ℕ

@@ -1,10 +1,9 @@
 -- The refusals that the account and the named entry decide, in checking order: 8 to 16.
 use Prim.Native.Nat.{ℕ, _-_}
-use mathlib.Core.Bool.{Bool, false, cond, _&&_}
+use mathlib.Core.Bool.{Bool, _&&_, _||_}
 use mathlib.Core.List.{List, [], _∷_}
 use lib.Dec.{eqb, leb, ltb}
 use Rattle.measures.specs.declared.Cents.{Cents}
-use Rattle.measures.specs.declared.Day.{Day}
 use Rattle.entries.specs.Kinds.{sameOf, misnamesOf}
 use Rattle.entries.specs.Refusals.{Row, _⇒_, firstOf}
 use Rattle.entries.specs.Entries.{namedOf}
@@ -14,6 +13,7 @@ use Rattle.entries.specs.declared.kinds.Kind.the-variants as kind
 use Rattle.entries.specs.declared.data.Entry.{Entry}
 use Rattle.entries.specs.declared.refusals.Refusal.the-variants as no
 use Rattle.entries.specs.declared.refusals.Check.{Check}
+use Rattle.entries.specs.declared.refusals.Check.the-variants as check
 use Rattle.rules.specs.declared.accounts.Account.{Account}
 
 -- the days from a contribution on in which added customers bring refunds
@@ -22,28 +22,22 @@ refundPeriod = 1826
 
 -- a deposit comes while one is held, or a return while none is; a deposit is held while its amount is above 0
 abbrev pub depositClash : Kind → Cents → Bool
-depositClash kind.Unknown held = false
-depositClash kind.Contribution held = false
-depositClash kind.AddedCustomer held = false
-depositClash kind.Bill held = false
-depositClash kind.Payment held = false
-depositClash kind.Deposit held = ltb 0 (held .0)
-depositClash kind.DepositReturn held = eqb (held .0) 0
-depositClash kind.Expiry held = false
-depositClash kind.Correction held = false
+depositClash k held = sameOf k kind.Deposit && ltb 0 (held .0) || sameOf k kind.DepositReturn && eqb (held .0) 0
 
--- the first day that an entry may bear: in a return the deposit's, else the named entry's
-abbrev pub notBefore : Kind → Day → Day → Day
-notBefore k deposited named = cond (sameOf k kind.DepositReturn) deposited named
+-- of an entry that names nothing
+abbrev pub ownRows : Raw → Kind → Account → List Row
+ownRows r k acc =
+    (depositClash k (acc .deposit) ⇒ no.DepositState) ∷
+    (sameOf k kind.DepositReturn && ltb (r .day) (acc .deposited .0) ⇒ no.DayBefore) ∷
+    []
 
--- e is the named entry, or an unused one (day 0, no kind) where nothing is named or the chain yields no such entry
-abbrev pub stateRows : Raw → Kind → Account → Entry → List Row
-stateRows r k acc e =
+-- of an entry that names e
+abbrev pub namingRows : Raw → Kind → Entry → List Row
+namingRows r k e =
     let n = namedOf (e .«data») in
     let age = r .day - e .day .0 in
     (misnamesOf k (n .kind) ⇒ no.NotOnChain) ∷
-    (depositClash k (acc .deposit) ⇒ no.DepositState) ∷
-    (ltb (r .day) (notBefore k (acc .deposited) (e .day) .0) ⇒ no.DayBefore) ∷
+    (ltb (r .day) (e .day .0) ⇒ no.DayBefore) ∷
     (n .closed ⇒ no.Closed) ∷
     (sameOf k kind.AddedCustomer && leb refundPeriod age ⇒ no.PeriodOver) ∷
     (sameOf k kind.Expiry && ltb age refundPeriod ⇒ no.PeriodRunning) ∷
@@ -52,5 +46,8 @@ stateRows r k acc e =
     (n .corrected ⇒ no.CorrectedBefore) ∷
     []
 
-unfoldable pub checkStateOf : Check → Raw → Kind → Account → Entry → Check
-checkStateOf c r k acc e = firstOf c (stateRows r k acc e)
+unfoldable pub checkOwnOf : Raw → Kind → Account → Check
+checkOwnOf r k acc = firstOf check.Passed (ownRows r k acc)
+
+unfoldable pub checkNamingOf : Raw → Kind → Entry → Check
+checkNamingOf r k e = firstOf check.Passed (namingRows r k e)

@@ -2,8 +2,8 @@
 use Prim.Native.Nat.{ℕ, _+_, _-_, _*_, _/_, min, _≤_, _<_}
 use mathlib.Core.Path.{_≡_}
 use mathlib.Core.Bool.{true}
-use Rattle.measures.specs.Cents.{cents, leastOf, timesOf, overOf, roundedOf}
-use Rattle.measures.specs.Rounding.{Nearest}
+use Rattle.measures.specs.Cents.{productOf, cents, timesOf, roundedOf}
+use Rattle.measures.specs.Rounding.{Nearest, Floor}
 use Rattle.measures.specs.declared.Cents.{Cents}
 use Rattle.measures.specs.declared.Metres.{Metres}
 use Rattle.entries.specs.Ranges.{amountMost, inRangeOf}
@@ -29,8 +29,7 @@ unfoldable pub billedOf : Cents → ℕ → ℕ → Cents
 billedOf charge served period = roundedOf (timesOf charge served) period
 
 unfoldable pub refundOf : Named → Metres → Cents
-refundOf n shared =
-    leastOf (n .held) (overOf (timesOf (n .amount) (shared .0)) (n .built .0 * (n .added + 2)))
+refundOf n shared = cents (min (n .held .0) (productOf (n .amount .0) (shared .0) / (n .built .0 * (n .added + 2))))
 
 unfoldable pub interestOf : Cents → ℕ → ℕ → Cents
 interestOf deposit rate days = roundedOf (timesOf (timesOf deposit rate) days) 3650000
@@ -56,3 +55,8 @@ pub record PlainEntries : Type 0 where
 pub record RoundedNearest : Type 0 where
   pub bill : (charge served period : ℕ) → 0 < period → Nearest (charge * served) period (billed charge served period)
   pub deposit-return : (deposit rate t : ℕ) → Nearest (deposit * rate * t) 3650000 (interest deposit rate t)
+
+-- A refund is the smaller of what is held and its share rounded down; k is 2 more than the customers added before, however many.
+abbrev pub RefundFloor : Type 0
+RefundFloor = (held contribution shared built added : ℕ) → 0 < built →
+    (share : ℕ) × Floor (contribution * shared) (built * (added + 2)) share × (refund held contribution shared built added ≡ min held share)

@@ -4,4 +4,3 @@ pub mod Formulas
 pub mod Checks
 pub mod Answers
 pub mod Changes
-pub mod Figures

@@ -2,9 +2,12 @@
 use crate::accounts::Account;
 use crate::answers::Amounts;
 use crate::answers::Answer;
+use crate::checks::check_naming;
+use crate::checks::check_own;
 use crate::formulas::billed;
 use crate::formulas::interest;
 use crate::formulas::refund;
+use entries::Check;
 use entries::Data;
 use entries::Entry;
 use entries::Kind;
@@ -15,7 +18,7 @@ use measures::Day;
 use measures::Metres;
 ghost use mathlib.Core.Path.{_≡_};
 ghost use Rattle.entries.specs.Entries.{entryOf, withOf};
-ghost use Rattle.rules.specs.Changes.{aloneOf, contributionOf, addedCustomerOf, billOf, paymentOf, depositOf, depositReturnOf, expiryOf, pickOf, correctionOf, effectOf, outcomeNumber, answerOf, nothingOf};
+ghost use Rattle.rules.specs.Changes.{aloneOf, contributionOf, addedCustomerOf, billOf, paymentOf, depositOf, depositReturnOf, expiryOf, pickOf, correctionOf, ownChangeOf, namingChangeOf, ownOutcomeOf, namingOutcomeOf, outcomeNumber, answerOf, nothingOf};
 
 // Where a named entry stands in the book's array.
 pub enum Found {
@@ -120,16 +123,13 @@ fn contribution(raw: Raw, account: Account) -> Change
 }
 
 // 2: the refund is credited; what is left over is paid out.
-fn added_customer(raw: Raw, account: Account, lookup: Found, named_data: Data) -> Outcome
-    ensures { λ r. ⌜ r ≡ addedCustomerOf raw account lookup «named_data» ⌝ }
+fn added_customer(raw: Raw, account: Account, i: usize, named_data: Data) -> Change
+    ensures { λ r. ⌜ r ≡ addedCustomerOf raw account i «named_data» ⌝ }
 {
-    let Found::At(i) = lookup else {
-        return Outcome::Refused(Refusal::NotOnChain);
-    };
     let back = refund(named_data.named(), Metres(raw.a));
     let credited = account.credited(back);
     let after = credited.account;
-    Outcome::Accepted(Change {
+    Change {
         account: after,
         data: Data::AddedCustomer {
             named_node: raw.named_node,
@@ -140,7 +140,7 @@ fn added_customer(raw: Raw, account: Account, lookup: Found, named_data: Data) -
         names: Found::At(i),
         named: named_data.refunded(back, credited.settled, credited.left),
         amounts: Amounts::of(credited.settled, credited.left, Cents(0), Cents(0)),
-    })
+    }
 }
 
 // 3: billed is charged.
@@ -211,14 +211,11 @@ fn deposit_return(raw: Raw, account: Account) -> Change
 }
 
 // 7: retained = held; held = 0; the contribution is closed.
-fn expiry(raw: Raw, account: Account, lookup: Found, named_data: Data) -> Outcome
-    ensures { λ r. ⌜ r ≡ expiryOf raw account lookup «named_data» ⌝ }
+fn expiry(raw: Raw, account: Account, i: usize, named_data: Data) -> Change
+    ensures { λ r. ⌜ r ≡ expiryOf raw account i «named_data» ⌝ }
 {
-    let Found::At(i) = lookup else {
-        return Outcome::Refused(Refusal::NotOnChain);
-    };
     let named = named_data.named();
-    Outcome::Accepted(Change {
+    Change {
         account,
         data: Data::Expiry {
             named_node: raw.named_node,
@@ -227,7 +224,7 @@ fn expiry(raw: Raw, account: Account, lookup: Found, named_data: Data) -> Outcom
         names: Found::At(i),
         named: named_data.expired(),
         amounts: Amounts::of(Cents(0), Cents(0), named.held, Cents(0)),
-    })
+    }
 }
 
 fn pick(first: bool, a: Cents, b: Cents) -> Cents
@@ -237,12 +234,9 @@ fn pick(first: bool, a: Cents, b: Cents) -> Cents
 }
 
 // 8: a bill that grows, or a payment that shrinks, charges the difference; the others credit it, what is left over going to credit.
-fn correction(raw: Raw, account: Account, lookup: Found, named_data: Data) -> Outcome
-    ensures { λ r. ⌜ r ≡ correctionOf raw account lookup «named_data» ⌝ }
+fn correction(raw: Raw, account: Account, i: usize, named_data: Data) -> Change
+    ensures { λ r. ⌜ r ≡ correctionOf raw account i «named_data» ⌝ }
 {
-    let Found::At(i) = lookup else {
-        return Outcome::Refused(Refusal::NotOnChain);
-    };
     let amount = raw.cents();
     let named = named_data.named();
     let kind = named.kind;
@@ -253,7 +247,7 @@ fn correction(raw: Raw, account: Account, lookup: Found, named_data: Data) -> Ou
         .charged(pick(bill, up, down))
         .credited(pick(bill, down, up));
     let after = credited.account;
-    Outcome::Accepted(Change {
+    Change {
         account: after.kept(credited.left),
         data: Data::Correction {
             named_node: raw.named_node,
@@ -263,22 +257,58 @@ fn correction(raw: Raw, account: Account, lookup: Found, named_data: Data) -> Ou
         names: Found::At(i),
         named: named_data.restated(amount),
         amounts: Amounts::of(credited.settled, Cents(0), Cents(0), Cents(0)),
-    })
+    }
 }
 
-// What an entry that no check refused does, by its kind. `named_data` is the named entry's.
-pub fn effect(raw: Raw, kind: Kind, account: Account, lookup: Found, named_data: Data) -> Outcome
-    ensures { λ r. ⌜ r ≡ effectOf raw kind account lookup «named_data» ⌝ }
+// What an entry that names nothing does: of kind 1, 3, 4, 5 or else 6.
+fn own_change(raw: Raw, kind: Kind, account: Account) -> Change
+    ensures { λ r. ⌜ r ≡ ownChangeOf raw kind account ⌝ }
 {
-    match kind {
-        Kind::Unknown => Outcome::Refused(Refusal::UnknownKind),
-        Kind::Contribution => Outcome::Accepted(contribution(raw, account)),
-        Kind::AddedCustomer => added_customer(raw, account, lookup, named_data),
-        Kind::Bill => Outcome::Accepted(bill(raw, account)),
-        Kind::Payment => Outcome::Accepted(payment(raw, account)),
-        Kind::Deposit => Outcome::Accepted(deposit(raw, account)),
-        Kind::DepositReturn => Outcome::Accepted(deposit_return(raw, account)),
-        Kind::Expiry => expiry(raw, account, lookup, named_data),
-        Kind::Correction => correction(raw, account, lookup, named_data),
+    if kind.is(Kind::Contribution) {
+        return contribution(raw, account);
     }
+    if kind.is(Kind::Bill) {
+        return bill(raw, account);
+    }
+    if kind.is(Kind::Payment) {
+        return payment(raw, account);
+    }
+    if kind.is(Kind::Deposit) {
+        return deposit(raw, account);
+    }
+    deposit_return(raw, account)
+}
+
+// What an entry does that names the one at place i: of kind 2, 7 or else 8.
+fn naming_change(raw: Raw, kind: Kind, account: Account, i: usize, named_data: Data) -> Change
+    ensures { λ r. ⌜ r ≡ namingChangeOf raw kind account i «named_data» ⌝ }
+{
+    if kind.is(Kind::AddedCustomer) {
+        return added_customer(raw, account, i, named_data);
+    }
+    if kind.is(Kind::Expiry) {
+        return expiry(raw, account, i, named_data);
+    }
+    correction(raw, account, i, named_data)
+}
+
+// The refusal of an entry that names nothing, or what it does.
+pub fn own_outcome(raw: Raw, kind: Kind, account: Account) -> Outcome
+    ensures { λ r. ⌜ r ≡ ownOutcomeOf raw kind account ⌝ }
+{
+    if let Check::Refused(refusal) = check_own(raw, kind, account) {
+        return Outcome::Refused(refusal);
+    }
+    Outcome::Accepted(own_change(raw, kind, account))
+}
+
+// The refusal of an entry that names the one at place i, or what it does.
+pub fn naming_outcome(raw: Raw, kind: Kind, account: Account, i: usize, named: Entry) -> Outcome
+    ensures { λ r. ⌜ r ≡ namingOutcomeOf raw kind account i named ⌝ }
+{
+    if let Check::Refused(refusal) = check_naming(raw, kind, named) {
+        return Outcome::Refused(refusal);
+    }
+    let what = named.data;
+    Outcome::Accepted(naming_change(raw, kind, account, i, what))
 }

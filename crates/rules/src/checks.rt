@@ -6,58 +6,52 @@ use entries::Kind;
 use entries::Raw;
 use entries::Refusal;
 use entries::both;
+use entries::either;
 use measures::Cents;
 use measures::Day;
 ghost use mathlib.Core.Path.{_≡_};
-ghost use Rattle.rules.specs.Checks.{depositClash, notBefore, checkStateOf};
+ghost use Rattle.rules.specs.Checks.{depositClash, checkOwnOf, checkNamingOf};
 
 // The days from a contribution on in which added customers bring refunds; an expiry comes after them.
 pub const REFUND_PERIOD: u16 = 1826;
 
 // A deposit comes while one is held, or a return while none is.
-fn deposit_clash(kind: Kind, deposit: Cents) -> bool
-    ensures { λ r. ⌜ r ≡ depositClash kind deposit ⌝ }
+fn deposit_clash(kind: Kind, held: Cents) -> bool
+    ensures { λ r. ⌜ r ≡ depositClash kind held ⌝ }
 {
-    match kind {
-        Kind::Unknown => false,
-        Kind::Contribution => false,
-        Kind::AddedCustomer => false,
-        Kind::Bill => false,
-        Kind::Payment => false,
-        Kind::Deposit => 0 < deposit.0,
-        Kind::DepositReturn => deposit.0 == 0,
-        Kind::Expiry => false,
-        Kind::Correction => false,
-    }
+    either(
+        both(kind.is(Kind::Deposit), 0 < held.0),
+        both(kind.is(Kind::DepositReturn), held.0 == 0),
+    )
 }
 
-// The first day that an entry may bear: the deposit's for a return, else the named entry's.
-fn not_before(kind: Kind, deposited: Day, named: Day) -> Day
-    ensures { λ r. ⌜ r ≡ notBefore kind deposited named ⌝ }
+// 9 and 10 of an entry that names nothing.
+pub fn check_own(raw: Raw, kind: Kind, account: Account) -> Check
+    ensures { λ r. ⌜ r ≡ checkOwnOf raw kind account ⌝ }
 {
-    if kind.is(Kind::DepositReturn) {
-        deposited
-    } else {
-        named
-    }
+    let before = raw.day < account.deposited.0;
+    Check::Passed
+        .rule(deposit_clash(kind, account.deposit), Refusal::DepositState)
+        .rule(
+            both(kind.is(Kind::DepositReturn), before),
+            Refusal::DayBefore,
+        )
 }
 
-// 8 to 16, after a check of what comes before them. The entry is the named one, or an unused one where nothing is named or found.
-pub fn check_state(check: Check, raw: Raw, kind: Kind, account: Account, entry: Entry) -> Check
-    ensures { λ r. ⌜ r ≡ checkStateOf check raw kind account entry ⌝ }
+// 8, for the kind of the named entry, and 10 to 16 of an entry that names one.
+pub fn check_naming(raw: Raw, kind: Kind, entry: Entry) -> Check
+    ensures { λ r. ⌜ r ≡ checkNamingOf raw kind entry ⌝ }
 {
     let data = entry.data;
     let named = data.named();
     let named_kind = named.kind;
     let day = Day(raw.day);
-    let first = not_before(kind, account.deposited, entry.day);
     let age = day.since(entry.day);
     let added = kind.is(Kind::AddedCustomer);
     let one_to_three = both(raw.b == 1, named.phases == 3);
-    check
+    Check::Passed
         .rule(kind.misnames(named_kind), Refusal::NotOnChain)
-        .rule(deposit_clash(kind, account.deposit), Refusal::DepositState)
-        .rule(raw.day < first.0, Refusal::DayBefore)
+        .rule(raw.day < entry.day.0, Refusal::DayBefore)
         .rule(named.closed, Refusal::Closed)
         .rule(both(added, REFUND_PERIOD <= age), Refusal::PeriodOver)
         .rule(

@@ -2,6 +2,9 @@
 use entries::Named;
 use measures::Cents;
 use measures::Metres;
+use measures::product;
+use measures::quotient;
+use measures::smaller;
 ghost use mathlib.Core.Path.{_≡_};
 ghost use Rattle.rules.specs.Formulas.{billedOf, refundOf, interestOf};
 
@@ -12,17 +15,17 @@ pub fn billed(charge: Cents, served: u8, period: u16) -> Cents
     charge.times(served as u64).rounded(period as u64)
 }
 
-// What one more customer on the line gives back: its share, and not more than is held.
+// What one more customer on the line gives back: its share, and not more than is held. Cents and metres are unwrapped, and the
+// refund is cents again.
 pub fn refund(named: Named, shared: Metres) -> Cents
     ensures { λ r. ⌜ r ≡ refundOf named shared ⌝ }
 {
+    let contribution = named.amount.0;
+    let metres_shared = shared.0 as u64;
+    let metres_built = named.built.0 as u64;
     let k = named.added as u64 + 2;
-    let share = named
-        .amount
-        .times(shared.0 as u64)
-        .over(named.built.0 as u64 * k);
-    let held = named.held;
-    held.least(share)
+    let share = quotient(product(contribution, metres_shared), metres_built * k);
+    Cents(smaller(named.held.0, share))
 }
 
 // The days of a year times the hundredths of a percent in the whole.

@@ -13,5 +13,5 @@ pub use answers::Reply;
 pub use changes::Change;
 pub use changes::Found;
 pub use changes::Outcome;
-pub use changes::effect;
-pub use checks::check_state;
+pub use changes::naming_outcome;
+pub use changes::own_outcome;

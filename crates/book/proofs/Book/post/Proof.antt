@@ -2,16 +2,15 @@ use Prim.Native.Nat.{_<_, _+_}
 use mathlib.Core.Path.{_≡_, refl, sym, ap, _∙_}
 use native.Mathlib.Nat.{min-eq-left}
 use native.Mathlib.Omega.{arith}
-use lib.ListN.{getD}
+use lib.ListN.{set}
 use borrow.Author.Needs.{needs}
-use Rattle.entries.specs.Entries.{noEntry, withOf}
 use Rattle.rules.specs.Changes.{answerOf}
 use Rattle.rules.specs.declared.changes.Outcome.the-variants.{Accepted}
 use Rattle.book.specs.Fresh.{entriesMost}
-use Rattle.book.specs.Posting.{namedAt, lookupOf, decisionOf}
+use Rattle.book.specs.Posting.{lookupOf, decisionOf}
 use Rattle.book.proofs.Chain.{slot-inside}
 use Rattle.book.proofs.Searches.{findsOf, place-inside, begins, nearer, past, decided, rewrites}
-use Rattle.book.proofs.Posting.{room, names-inside, post-refused, post-accepted}
+use Rattle.book.proofs.Posting.{room, names-inside, post-refused, rewrites-at, post-accepted}
 use Rattle.book.proofs.Book.post.Statement.{statement}
 use Rattle.book.proofs.Book.post.Tie as tie
 
@@ -129,7 +128,7 @@ rewritten-requires c κs = search needs
 inside : (c : tie.After-names Inv-loop μ-loop) → c .names .given .0 .0 < entriesMost
 inside c = names-inside (c .before .before .before .before .before .before .before .before .before .before .before .before .before .before .before .before .before .before .before .before .args .t1) (c .before .before .before .before .before .before .before .before .before .before .before .before .before .before .before .before .before .before .before .before .args .raw) (c .before .before .before .before .before .before .outcome2 .given .0 .0) _ (accepted (c .before .before .before .before .before .before)) (c .names .given .1)
 
-rewritten-is : (c : tie.After-names Inv-loop μ-loop) → getD (c .before .before .before .before .before .before .before .before .before .before .before .before .before .before .before .before .before .before .before .before .args .t1 .entries) (c .before .before .before .before .before .before .before .before .before .before .before .before .place2 .result) noEntry ≡ namedAt (c .before .before .before .before .before .before .before .before .before .before .before .before .before .before .before .before .before .before .before .before .args .t1) (c .before .before .before .before .before .before .before .before .before .before .before .before .before .before .before .before .before .before .before .before .args .raw)
+rewritten-is : (c : tie.After-names Inv-loop μ-loop) → c .before .before .before .before .before .before .before .before .before .before .before .before .place2 .result ≡ c .names .given .0 .0
 rewritten-is c =
     rewrites (c .before .before .before .before .before .before .before .before .before .before .before .before .before .before .before .before .before .before .before .before .args .t1) (c .before .before .before .before .before .before .before .before .before .before .before .before .before .before .before .before .before .before .before .before .args .raw) (c .before .before .before .before .before .before .before .before .before .before .before .before .before .before .before .loop .search) _ _ (c .before .before .before .before .before .before .outcome2 .given .0 .0) (c .before .before .before .before .before .before .before .before .before .before .before .before .before .before .before .loop .inv)
     (sym (c .before .before .before .before .before .before .before .before .before .before .before .before .before .before .goes-on .ensures) ∙ c .before .before .before .before .before .before .before .before .before .before .before .before .before .if1 .left) (c .before .before .before .before .before .before .before .before .before .before .before .before .place2 .ensures) (accepted (c .before .before .before .before .before .before)) (c .names .given .1)
@@ -150,13 +149,13 @@ returns : tie.Need-returns Inv-loop μ-loop
 returns c =
     post-accepted (c .before .before .before .before .before .before .before .before .before .before .before .before .before .before .before .before .before .before .before .before .before .before .args .t1) (c .before .before .before .before .before .before .before .before .before .before .before .before .before .before .before .before .before .before .before .before .before .before .args .raw) (c .before .before .before .before .before .before .before .before .outcome2 .given .0 .0) (c .before .before .before .before .before .before .before .before .before .before .before .before .outcome .result) _ _ _ _ _ _ _ _
     (outcome-is (c .before .before .before .before .before .before .before .before .before .before .before .before)) (c .before .before .before .before .before .before .before .before .outcome2 .given .1) (c .before .before .before .before .before .before .before .before .before .before .before .before .before .before .before .before .before .before .before .before .slot .ensures) (next-number (c .before .before .before .before .before .before .before .before)) (c .before .before .before .before .before .numbered .ensures) (c .before .before .before .before .before .before .entry3 .ensures)
-    (c .rewritten .ensures ∙ ap (λ e. withOf e (c .before .before .before .before .before .before .before .before .outcome2 .given .0 .0 .named)) (rewritten-is (c .before .before))) (c .before .before .names .given .1) (c .before .before .before .before .after .ensures) (c .before .before .before .before .before .before .before .before .before .before .answer .ensures)
+    (c .before .before .names .given .1) (rewrites-at (c .before .before .before .before .before .before .before .before .before .before .before .before .before .before .before .before .before .before .before .before .before .before .args .t1 .entries) (set (c .before .before .before .before .before .before .before .before .before .before .before .before .before .before .before .before .before .before .before .before .before .before .args .t1 .entries) (c .before .before .before .before .before .before .before .before .before .before .before .before .before .before .before .before .before .before .before .before .before .before .args .t1 .count) (c .before .before .before .before .before .before .entry3 .result)) _ _ (c .before .before .before .before .before .before .before .before .outcome2 .given .0 .0 .named) _ (c .rewritten .ensures) (rewritten-is (c .before .before))) (c .before .before .before .before .after .ensures) (c .before .before .before .before .before .before .before .before .before .before .answer .ensures)
 
 returns-2 : tie.Need-returns-2 Inv-loop μ-loop
 returns-2 c =
     post-accepted (c .before .before .before .before .before .before .before .before .before .before .before .before .before .before .before .before .before .before .before .before .args .t1) (c .before .before .before .before .before .before .before .before .before .before .before .before .before .before .before .before .before .before .before .before .args .raw) (c .before .before .before .before .before .before .outcome2 .given .0 .0) (c .before .before .before .before .before .before .before .before .before .before .outcome .result) _ _ _ _ _ _ _ _
     (outcome-is (c .before .before .before .before .before .before .before .before .before .before)) (c .before .before .before .before .before .before .outcome2 .given .1) (c .before .before .before .before .before .before .before .before .before .before .before .before .before .before .before .before .before .before .slot .ensures) (next-number (c .before .before .before .before .before .before)) (c .before .before .before .numbered .ensures) (c .before .before .before .before .entry3 .ensures)
-    refl (c .enum-told .given .1) (c .before .before .after .ensures) (c .before .before .before .before .before .before .before .before .answer .ensures)
+    (c .enum-told .given .1) refl (c .before .before .after .ensures) (c .before .before .before .before .before .before .before .before .answer .ensures)
 
 returns-3 : tie.Need-returns-3 Inv-loop μ-loop
 unfolding answerOf

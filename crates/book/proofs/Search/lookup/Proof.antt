@@ -1,5 +1,5 @@
 use borrow.Author.Needs.{needs}
-use Rattle.book.specs.Search.{soughtOf}
+use Rattle.book.specs.Search.{foundOf}
 use Rattle.book.proofs.Search.lookup.Statement.{statement}
 use Rattle.book.proofs.Search.lookup.Tie as tie
 
@@ -7,11 +7,11 @@ place-requires : tie.Need-place-requires
 place-requires c κs = search needs
 
 returns : tie.Need-returns
-unfolding soughtOf
+unfolding foundOf
 returns c = simp (c .before .if1 .taken, c .place .ensures)
 
 returns-2 : tie.Need-returns-2
-unfolding soughtOf
+unfolding foundOf
 returns-2 c = simp (c .if1 .left)
 
 pub lookup-spec : {M : Type 1} → statement M

@@ -1,18 +1,7 @@
-use mathlib.Core.Path.{refl}
 use Rattle.rules.specs.Changes.{addedCustomerOf}
 use borrow.Author.Needs.{needs}
 use Rattle.rules.proofs.changes.added_customer.Statement.{statement}
 use Rattle.rules.proofs.changes.added_customer.Tie as tie
-
-enum-known-lookup : tie.Need-enum-known-lookup
-enum-known-lookup c = search needs
-
-enum-told : tie.Need-enum-told
-enum-told c = search needs
-
-returns : tie.Need-returns
-unfolding addedCustomerOf
-returns c = rw (c .enum-told .given .1) refl
 
 named-requires : tie.Need-named-requires
 named-requires c κs = search needs
@@ -29,20 +18,17 @@ refunded-requires c κs = search needs
 of-requires : tie.Need-of-requires
 of-requires c κs = search needs
 
-returns-2 : tie.Need-returns-2
+returns : tie.Need-returns
 unfolding addedCustomerOf
-returns-2 c = rw (c .before .before .before .before .before .before .before .lookup .given .1) (simp (c .of .ensures, c .before .refunded .ensures, c .before .before .before .credited .ensures, c .before .before .before .before .refund .ensures, c .before .before .before .before .before .named .ensures))
+returns c = simp (c .of .ensures, c .before .refunded .ensures, c .before .before .before .credited .ensures, c .before .before .before .before .refund .ensures, c .before .before .before .before .before .named .ensures)
 
 pub added-customer-spec : {M : Type 1} → statement M
 added-customer-spec =
     tie.close
     (tie.spec
-    enum-known-lookup
-    enum-told
-    returns
     named-requires
     refund-requires
     credited-requires
     refunded-requires
     of-requires
-    returns-2)
+    returns)

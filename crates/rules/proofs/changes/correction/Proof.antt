@@ -1,18 +1,7 @@
-use mathlib.Core.Path.{refl}
 use Rattle.rules.specs.Changes.{correctionOf}
 use borrow.Author.Needs.{needs}
 use Rattle.rules.proofs.changes.correction.Statement.{statement}
 use Rattle.rules.proofs.changes.correction.Tie as tie
-
-enum-known-lookup : tie.Need-enum-known-lookup
-enum-known-lookup c = search needs
-
-enum-told : tie.Need-enum-told
-enum-told c = search needs
-
-returns : tie.Need-returns
-unfolding correctionOf
-returns c = rw (c .enum-told .given .1) refl
 
 cents-requires : tie.Need-cents-requires
 cents-requires c κs = search needs
@@ -50,17 +39,14 @@ restated-requires c κs = search needs
 of-requires : tie.Need-of-requires
 of-requires c κs = search needs
 
-returns-2 : tie.Need-returns-2
+returns : tie.Need-returns
 unfolding correctionOf
-returns-2 c = rw (c .before .before .before .before .before .before .before .before .before .before .before .before .before .before .lookup .given .1) (simp (c .of .ensures, c .before .restated .ensures, c .before .before .kept .ensures, c .before .before .before .before .credited .ensures, c .before .before .before .before .before .pick2 .ensures, c .before .before .before .before .before .before .charged .ensures, c .before .before .before .before .before .before .before .pick .ensures, c .before .before .before .before .before .before .before .before .minus2 .ensures, c .before .before .before .before .before .before .before .before .before .minus .ensures, c .before .before .before .before .before .before .before .before .before .before .is .ensures, c .before .before .before .before .before .before .before .before .before .before .before .named .ensures, c .before .before .before .before .before .before .before .before .before .before .before .before .cents .ensures))
+returns c = simp (c .of .ensures, c .before .restated .ensures, c .before .before .kept .ensures, c .before .before .before .before .credited .ensures, c .before .before .before .before .before .pick2 .ensures, c .before .before .before .before .before .before .charged .ensures, c .before .before .before .before .before .before .before .pick .ensures, c .before .before .before .before .before .before .before .before .minus2 .ensures, c .before .before .before .before .before .before .before .before .before .minus .ensures, c .before .before .before .before .before .before .before .before .before .before .is .ensures, c .before .before .before .before .before .before .before .before .before .before .before .named .ensures, c .before .before .before .before .before .before .before .before .before .before .before .before .cents .ensures)
 
 pub correction-spec : {M : Type 1} → statement M
 correction-spec =
     tie.close
     (tie.spec
-    enum-known-lookup
-    enum-told
-    returns
     cents-requires
     named-requires
     is-requires
@@ -73,4 +59,4 @@ correction-spec =
     kept-requires
     restated-requires
     of-requires
-    returns-2)
+    returns)

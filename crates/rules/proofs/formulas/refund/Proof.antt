@@ -11,44 +11,44 @@ fits a k ha hk =
     let h : a * k ≤ 65535 * 65537 = mul-le-mul {n₁ = a} {m₁ = k} {n₂ = 65535} {m₂ = 65537} (omega arith) (omega arith) in
     omega arith
 
+cast-metres-shared : tie.Need-cast-metres-shared
+cast-metres-shared c = search needs
+
+cast-metres-built : tie.Need-cast-metres-built
+cast-metres-built c = search needs
+
 cast-k : tie.Need-cast-k
 cast-k c = search needs
 
 add-k : tie.Need-add-k
 add-k c = search needs
 
-cast-times : tie.Need-cast-times
-cast-times c = search needs
+product-requires : tie.Need-product-requires
+product-requires c κs = search needs
 
-times-requires : tie.Need-times-requires
-times-requires c κs = search needs
+mul-quotient : tie.Need-mul-quotient
+mul-quotient c = record { fits = fits _ _ (search needs) (search needs) }
 
-cast-over : tie.Need-cast-over
-cast-over c = search needs
+quotient-requires : tie.Need-quotient-requires
+quotient-requires c κs = search needs
 
-mul-over : tie.Need-mul-over
-mul-over c = record { fits = fits _ _ (search needs) (search needs) }
-
-over-requires : tie.Need-over-requires
-over-requires c κs = search needs
-
-least-requires : tie.Need-least-requires
-least-requires c κs = search needs
+smaller-requires : tie.Need-smaller-requires
+smaller-requires c κs = search needs
 
 returns : tie.Need-returns
 unfolding refundOf
-returns c = simp (c .least .ensures, c .before .before .over .ensures, c .before .before .before .before .times .ensures)
+returns c = simp (c .smaller .ensures, c .before .quotient .ensures, c .before .before .product .ensures)
 
 pub refund-spec : {M : Type 1} → statement M
 refund-spec =
     tie.close
     (tie.spec
+    cast-metres-shared
+    cast-metres-built
     cast-k
     add-k
-    cast-times
-    times-requires
-    cast-over
-    mul-over
-    over-requires
-    least-requires
+    product-requires
+    mul-quotient
+    quotient-requires
+    smaller-requires
     returns)
