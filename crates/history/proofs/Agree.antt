@@ -4,7 +4,7 @@ use Prim.Native.Nat.{ℕ, zero, suc, _+_, _-_, _≤_, _<_}
 use native.Mathlib.Omega.{arith}
 use mathlib.Core.Bool.{Bool, true, false, cond}
 use mathlib.Core.List.{List, [], _∷_}
-use lib.ListN.{length, getD, set, length-set, length-replicate, getD-replicate}
+use lib.ListN.{length, getD, set, replicate, length-set, length-replicate, getD-replicate}
 use lib.Seq.{take-all, getD-set-same, getD-set-other}
 use lib.Dec.{eqb}
 use borrow.Author.Tests.{eqb-true, eqb-false, eq-eqb, le-leb}
@@ -241,15 +241,24 @@ module _ {b : Book} {h : History} (w : Agrees b h) (v : Valid h) (r : Raw) (j : 
       getD-set-same (b .entries) (length h) (keptEntry (r ∷ h) h r) noEntry room)
       (rows-hit r h es₁ i e long (hits v r i e k f) (rows-past (w .rows) (length h) (keptEntry (r ∷ h) h r) (omega arith))))
 
+  unused-stored : Role h r → (n : ℕ) → length h + 1 ≤ n → getD (rewritten (placeOf (named h r)) (withOf (namedAt b r) (newNamed h r (named h r))) es₁) n noEntry ≡ noEntry
+  unused-stored o n l = go o
+    where
+      before : getD es₁ n noEntry ≡ noEntry
+      before = getD-set-other (b .entries) (length h) n (keptEntry (r ∷ h) h r) noEntry (λ q. omega arith) ∙ w .unused n (omega arith)
+
+      go : Role h r → getD (rewritten (placeOf (named h r)) (withOf (namedAt b r) (newNamed h r (named h r))) es₁) n noEntry ≡ noEntry
+      go (alone k) = rw (named-none h r k) before
+      go (upon k i e f) =
+          let inside = hit v r i e f .inside in
+          rw (named-at h r bal i e f k) (getD-set-other es₁ i n (withOf (namedAt b r) (dataIn (r ∷ h) e)) noEntry (λ q. omega arith) ∙ before)
+
   abbrev next : Book
   next = storedOf b r (namedAt b r) theChange
 
-  rows-after : Rows (r ∷ h) (next .entries) (r ∷ h)
+  entries-after : next .entries ≡ rewritten (placeOf (named h r)) (withOf (namedAt b r) (newNamed h r (named h r))) es₁
   unfolding storedOf
-  rows-after =
-      rw account-at
-      (subst (λ (n : ℕ). Rows (r ∷ h) (rewritten (placeOf (named h r)) (withOf (namedAt b r) (newNamed h r (named h r))) (set (b .entries) n (keptEntry (r ∷ h) h r))) (r ∷ h))
-      (sym (w .counted)) (rows-stored (role h r (sorted h r j))))
+  entries-after = rw (account-at, w .counted) refl
 
   long-rewritten : (f : Found) (x : Entry) (es : List Entry) → length (rewritten f x es) ≡ length es
   long-rewritten Nothing x es = refl
@@ -311,10 +320,16 @@ module _ {b : Book} {h : History} (w : Agrees b h) (v : Valid h) (r : Raw) (j : 
         last-1 = last-1-after (eqb (r .node) 1);
         last-2 = last-2-after (eqb (r .node) 1) refl (eqb (r .node) 2) refl;
         account = account-after;
-        rows = rows-after;
+        rows = rw entries-after (rows-stored (role h r (sorted h r j)));
+        unused = λ n l. rw entries-after (unused-stored (role h r (sorted h r j)) n (omega arith));
       }
 
 -- THE AGREEMENT
+no-entry : (n i : ℕ) → getD (replicate n noEntry) i noEntry ≡ noEntry
+no-entry zero i = refl
+no-entry (suc n) zero = refl
+no-entry (suc n) (suc i) = no-entry n i
+
 fresh-agrees : Agrees freshBook []
 unfolding freshBook newestOf balance lastSerial
 fresh-agrees =
@@ -326,6 +341,7 @@ fresh-agrees =
       last-2 = refl;
       account = λ a l m. getD-replicate 128 (slotOf a) noAccount noAccount (omega (arith, slot-at a l m));
       rows = start;
+      unused = λ i l. no-entry 1024 i;
     }
 
 module _ (b : Book) (h : History) (w : Kept b h) (r : Raw) where

@@ -8,6 +8,7 @@ pub mod Search
 pub mod Effects
 pub mod Stored
 pub mod Agree
+pub mod Determined
 pub mod Lawful
 pub mod Carry
 pub mod Queries

@@ -67,6 +67,8 @@ pub record Agrees (b : Book) (h : History) : Type 0 where
   pub last-2 : b .last .«node_2» ≡ lastSerial h 2
   pub account : (a : ℕ) → 1 ≤ a → a ≤ accounts → accountAt b a ≡ keptAccount (balance h a) (newestOf h a)
   pub rows : Rows h (b .entries) h
+  -- places past the count are unused
+  pub unused : (i : ℕ) → length h ≤ i → getD (b .entries) i noEntry ≡ noEntry
 
 -- an account's entries, newest first, as the book keeps them
 unfoldable pub keptChain : History → History → ℕ → List Entry
@@ -89,3 +91,7 @@ pub record Agreement : Type 0 where
   pub posted : (b : Book) (h : History) → Kept b h → (r : Raw) → Kept (postOf b r .book) (offer h r)
   -- an account's chain is its entries, newest first
   pub chain : (b : Book) (h : History) → Kept b h → (a : ℕ) → 1 ≤ a → a ≤ accounts → chainAt b a ≡ keptChain h h a
+
+-- A history determines the book that keeps it: proofs/Determined.antt shows it.
+abbrev pub Determined : Type 0
+Determined = (b c : Book) (h : History) → Kept b h → Kept c h → b ≡ c
