@@ -12,25 +12,34 @@ use Rattle.entries.specs.declared.kinds.Kind.{Kind}
 use Rattle.entries.specs.declared.kinds.Kind.the-variants as kind
 use Rattle.rules.specs.Formulas.{billed, interest}
 use Rattle.rules.specs.Moves.{settles, leaves}
-use Rattle.history.specs.History.{History, naming, names, found, find, Fate, fateOf, posted, refundOf, change, fate, Balance, Move, stays, charges, credits, refunds, deposits, returns, retains, moved, moveBy, balance, Amounts, answered, amounts, judge, total, amountOf, standingAmount, heldOf, addedUp, toArrears, refundsPaid}
+use Rattle.history.specs.History.{History, naming, names, found, find, Fate, fateOf, posted, refundOf, change, fate, Balance, Move, stays, charges, credits, refunds, deposits, returns, retains, moved, moveBy, balance, Amounts, answered, amounts, judge, filter, onAccount, entriesOf, total, amountOf, standingAmount, heldOf, addedUp, toArrears, refundsPaid}
 use Rattle.history.specs.Laws.{Valid, empty, joins, In, newest, older, Conserved, Divided}
 use Rattle.history.proofs.Accept.{Sort, as-contribution, as-added, as-bill, as-payment, as-deposit, as-return, as-expiry, as-correction, correctable, sorted, Role, alone, upon, role}
 use Rattle.history.proofs.Names.{pointed, hit, fate-new, customers-new, Misses, none, miss, Hits, first, later, plain, misses-kind, hits, names-found, names-points, fate-cases, fate-miss, fate-hit, customers-miss, customers-hit, customers-other}
 use Rattle.history.proofs.Moves.{move-contribution, move-bill, move-payment, move-deposit, move-return, move-added, move-expiry, move-correction, corrects, restates-cases}
 
+-- a sum over the entries that pass a test: an entry's own part, and the rest
+pub total-filter : (f : Kind → Raw → Fate → ℕ) (all : History) (p : Raw → Bool) (r : Raw) (h : History) →
+    total f all (filter p (r ∷ h)) ≡ cond (p r) (f (kindOf (r .kind)) r (fate all r)) 0 + total f all (filter p h)
+unfolding total filter
+total-filter f all p r h = go (p r)
+  where
+    go : (t : Bool) → total f all (cond t (r ∷ filter p h) (filter p h)) ≡ cond t (f (kindOf (r .kind)) r (fate all r)) 0 + total f all (filter p h)
+    go true = refl
+    go false = omega arith
+
 -- a sum as the history grows, whatever is read off the entries
-module _ (f : Kind → Raw → Fate → ℕ) (c : Raw) (h : History) (a : ℕ) where
-  pub total-miss : {g : History} → Misses c g → total f (c ∷ h) g a ≡ total f h g a
-  unfolding total
+module _ (f : Kind → Raw → Fate → ℕ) (c : Raw) (h : History) (p : Raw → Bool) where
+  pub total-miss : {g : History} → Misses c g → total f (c ∷ h) (filter p g) ≡ total f h (filter p g)
+  unfolding total filter
   total-miss none = refl
-  total-miss (miss {x} {g} e m) = rw (fate-miss c h x e, total-miss m)
+  total-miss (miss {x} {g} e m) = rw (total-filter, total-filter, fate-miss c h x e, total-miss m)
 
   pub total-hit : {i : ℕ} {e : Raw} {g : History} → Hits c i e g →
-      total f (c ∷ h) g a + cond (eqb (e .account) a) (f (kindOf (e .kind)) e (fate h e)) 0 ≡
-      total f h g a + cond (eqb (e .account) a) (f (kindOf (e .kind)) e (change (kindOf (c .kind)) c e (fate h e))) 0
-  unfolding total
-  total-hit {e = e} (first {x} {g} n s l m) = rw (← s, fate-hit c h x n, total-miss m) (omega arith)
-  total-hit (later {x} {g} n t) = rw (fate-miss c h x n) (omega (arith, total-hit t))
+      total f (c ∷ h) (filter p g) + cond (p e) (f (kindOf (e .kind)) e (fate h e)) 0 ≡
+      total f h (filter p g) + cond (p e) (f (kindOf (e .kind)) e (change (kindOf (c .kind)) c e (fate h e))) 0
+  total-hit {e = e} (first {x} {g} n s l m) = rw (← s, total-filter, total-filter, fate-hit c h x n, total-miss m) (omega arith)
+  total-hit (later {x} {g} n t) = rw (total-filter, total-filter, fate-miss c h x n) (omega (arith, total-hit t))
 
 -- a posted entry's fate, of a kind
 abbrev pub postedAs : Kind → Raw → Fate
@@ -118,18 +127,15 @@ module _ (s s′ : Sums) (u : Amounts) (b : Balance) (l : Law s u b) (r : Raw) w
 module _ {h : History} (v : Valid h) (r : Raw) (j : judge h r ≡ 0) (a : ℕ) where
   -- the sums over the older entries after one that names nothing, and after one that does
   changed : naming (kindOf (r .kind)) ≡ true → (i : ℕ) (e : Raw) → find h r ≡ found i e → (f : Kind → Raw → Fate → ℕ) →
-      total f (r ∷ h) h a + cond (eqb (r .account) a) (f (kindOf (e .kind)) e (fate h e)) 0 ≡
-      total f h h a + cond (eqb (r .account) a) (f (kindOf (e .kind)) e (change (kindOf (r .kind)) r e (fate h e))) 0
+      total f (r ∷ h) (entriesOf h a) + cond (eqb (r .account) a) (f (kindOf (e .kind)) e (fate h e)) 0 ≡
+      total f h (entriesOf h a) + cond (eqb (r .account) a) (f (kindOf (e .kind)) e (change (kindOf (r .kind)) r e (fate h e))) 0
   changed k i e q f =
-      subst (λ (n : ℕ). total f (r ∷ h) h a + cond (eqb n a) (f (kindOf (e .kind)) e (fate h e)) 0 ≡
-      total f h h a + cond (eqb n a) (f (kindOf (e .kind)) e (change (kindOf (r .kind)) r e (fate h e))) 0)
-      (pointed r e (hit v r i e q .aimed) .account) (total-hit f r h a (hits v r i e k q))
+      rw (ap (λ (n : ℕ). eqb n a) (pointed r e (hit v r i e q .aimed) .account)) at (total-hit f r h (onAccount a) (hits v r i e k q))
 
   -- another account's sums stay
-  still : eqb (r .account) a ≡ false → Role h r → (f : Kind → Raw → Fate → ℕ) → total f (r ∷ h) (r ∷ h) a ≡ total f h h a
-  unfolding total
-  still t (alone k) f = rw t (omega (arith, total-miss f r h a (misses-kind r k h)))
-  still t (upon k i e q) f = rw t (omega (arith, rw t at (changed k i e q f)))
+  still : eqb (r .account) a ≡ false → Role h r → (f : Kind → Raw → Fate → ℕ) → total f (r ∷ h) (entriesOf (r ∷ h) a) ≡ total f h (entriesOf h a)
+  still t (alone k) f = rw (total-filter, t) (omega (arith, total-miss f r h (onAccount a) (misses-kind r k h)))
+  still t (upon k i e q) f = rw (total-filter, t) (omega (arith, rw t at (changed k i e q f)))
 
   added-still : eqb (r .account) a ≡ false → (f : Amounts → ℕ) → addedUp f (r ∷ h) a ≡ addedUp f h a
   unfolding addedUp
@@ -145,7 +151,7 @@ module _ {h : History} (v : Valid h) (r : Raw) (j : judge h r ≡ 0) where
   private-same = eq-eqb (r .account) (r .account) refl
 
   abbrev sums : History → Sums
-  sums g = each (λ f. total f g g (r .account))
+  sums g = each (λ f. total f g (entriesOf g (r .account)))
 
   abbrev ups : History → Amounts
   ups g =
@@ -160,19 +166,17 @@ module _ {h : History} (v : Valid h) (r : Raw) (j : judge h r ≡ 0) where
   b = balance h (r .account)
 
   here-plain : naming (kindOf (r .kind)) ≡ false → Shifted (sums h) (sums (r ∷ h)) (each (λ f. f (kindOf (r .kind)) r (posted r))) nil nil
-  unfolding total
   here-plain k =
-      shift (λ f. total f h h (r .account)) (λ f. total f (r ∷ h) (r ∷ h) (r .account)) (λ f. f (kindOf (r .kind)) r (posted r)) (λ f. 0) (λ f. 0)
-      (λ f. rw (private-same, total-miss f r h (r .account) (misses-kind r k h), fate-new v r j) (omega arith))
+      shift (λ f. total f h (entriesOf h (r .account))) (λ f. total f (r ∷ h) (entriesOf (r ∷ h) (r .account))) (λ f. f (kindOf (r .kind)) r (posted r)) (λ f. 0) (λ f. 0)
+      (λ f. rw (total-filter, private-same, total-miss f r h (onAccount (r .account)) (misses-kind r k h), fate-new v r j) (omega arith))
 
   here-named : naming (kindOf (r .kind)) ≡ true → (i : ℕ) (e : Raw) → find h r ≡ found i e →
       Shifted (sums h) (sums (r ∷ h)) (each (λ f. f (kindOf (r .kind)) r (fate (r ∷ h) r))) (each (λ f. f (kindOf (e .kind)) e (fate h e)))
       (each (λ f. f (kindOf (e .kind)) e (change (kindOf (r .kind)) r e (fate h e))))
-  unfolding total
   here-named k i e q =
-      shift (λ f. total f h h (r .account)) (λ f. total f (r ∷ h) (r ∷ h) (r .account)) (λ f. f (kindOf (r .kind)) r (fate (r ∷ h) r))
+      shift (λ f. total f h (entriesOf h (r .account))) (λ f. total f (r ∷ h) (entriesOf (r ∷ h) (r .account))) (λ f. f (kindOf (r .kind)) r (fate (r ∷ h) r))
       (λ f. f (kindOf (e .kind)) e (fate h e)) (λ f. f (kindOf (e .kind)) e (change (kindOf (r .kind)) r e (fate h e)))
-      (λ f. rw private-same (let c = rw private-same at (changed v r j (r .account) k i e q f) in omega arith))
+      (λ f. rw (total-filter, private-same) (let c = rw private-same at (changed v r j (r .account) k i e q f) in omega arith))
 
   balance-after : balance (r ∷ h) (r .account) ≡ moved (moveBy h r b) b
   unfolding balance
@@ -215,7 +219,7 @@ module _ {h : History} (v : Valid h) (r : Raw) (j : judge h r ≡ 0) where
       (n-correction (sums h) (sums (r ∷ h)) (ups h) b l r e (fate (r ∷ h) r) (fate h e) bill (rw (k, c) at (here-named (ap naming k) i e f)))
 
 pub conserve : {h : History} → Valid h → (a : ℕ) → Conserved h a
-unfolding total addedUp balance
+unfolding total filter addedUp balance
 conserve empty a = refl
 conserve (joins {r} {h} v j) a = go (λ n. conserve v n) (eqb (r .account) a) refl
   where

@@ -8,7 +8,7 @@ use Rattle.entries.specs.Kinds.{kindOf}
 use Rattle.entries.specs.declared.raw.Raw.{Raw}
 use Rattle.entries.specs.declared.kinds.Kind.{Kind}
 use Rattle.entries.specs.declared.kinds.Kind.the-variants as kind
-use Rattle.history.specs.History.{History, Fate, Amounts, entries, period, points, fate, balance, judge, offers, total, amountOf, standingAmount, heldOf, addedUp, toArrears, refundsPaid}
+use Rattle.history.specs.History.{History, Fate, Amounts, entries, period, points, fate, balance, judge, offers, entriesOf, total, amountOf, standingAmount, heldOf, addedUp, toArrears, refundsPaid}
 
 -- the histories that offers give: no refusal stopped any entry, read against those before it
 pub data Valid : History → Type 0 where
@@ -25,7 +25,7 @@ pub data In (e : Raw) : History → Type 0 where
 abbrev pub Conserved : History → ℕ → Type 0
 Conserved h a =
     let b = balance h a in
-    let sum : (Kind → Raw → Fate → ℕ) → ℕ = λ f. total f h h a in
+    let sum : (Kind → Raw → Fate → ℕ) → ℕ = λ f. total f h (entriesOf h a) in
     let added : (Amounts → ℕ) → ℕ = λ f. addedUp f h a in
     sum (amountOf kind.Contribution) + sum (standingAmount kind.Payment) + sum (amountOf kind.Deposit) + added (λ x. x .interest) + b .arrears
     ≡ sum (standingAmount kind.Bill) + added (λ x. x .paidOut) + added (λ x. x .retained) + sum heldOf + b .deposit + b .credit
