@@ -69,4 +69,5 @@ demand3 cs =
       held = λ a l m. rw (agreement .chain (bookOf cs) h w a l m) (reads-total chains.heldOf heldOf h (held-read h) (chain-reads h h a));
       kept = w;
       lawful = laws .lawful h (w .valid);
+      bounded = laws .bounded h (w .valid);
     }

@@ -5,7 +5,7 @@ use mathlib.Core.List.{List, [], _∷_}
 use native.Mathlib.Omega.{arith}
 use Rattle.entries.specs.declared.raw.Raw.{Raw}
 use Rattle.history.specs.History.{History, judge, joined, offer, offers}
-use Rattle.history.specs.Laws.{Valid, empty, joins, Lawful, Laws}
+use Rattle.history.specs.Laws.{Valid, empty, joins, Lawful, Bounded, Laws}
 use Rattle.history.proofs.Accept.{fits}
 use Rattle.history.proofs.Names.{in-period, once}
 use Rattle.history.proofs.Conserve.{conserve, divide}
@@ -18,6 +18,11 @@ lawful h v =
       divided = λ e m c. divide v e m c;
       in-period = λ c e m n k p. in-period v c e m n k p;
       once = once v;
+    }
+
+within : (h : History) → Valid h → Bounded h
+within h v =
+    record {
       room = fits v;
       arrears = λ a. omega (arith, fits v, bounded v a .arrears);
       credit = λ a. omega (arith, fits v, bounded v a .credit);
@@ -39,4 +44,4 @@ valid-offers v [] = v
 valid-offers v (r ∷ rs) = valid-offers (valid-offer v r) rs
 
 pub laws : Laws
-laws = record { valid = λ rs. valid-offers empty rs; lawful = lawful }
+laws = record { valid = λ rs. valid-offers empty rs; lawful = lawful; bounded = within }

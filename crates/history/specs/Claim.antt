@@ -11,7 +11,7 @@ use Rattle.queries.specs.Statement.{statementOf}
 use Rattle.queries.specs.Contribution.{contributionQueryOf}
 use Rattle.image.specs.Saves.{saveOf}
 use Rattle.history.specs.History.{accounts, along, balance, entriesOf, total, heldOf}
-use Rattle.history.specs.Laws.{Lawful}
+use Rattle.history.specs.Laws.{Lawful, Bounded}
 use Rattle.history.specs.Agreement.{Kept}
 use Rattle.carry.specs.Carry.{carryRefusalOf, carryBookOf, carryResultsOf}
 use Rattle.history.specs.Calls.{Call, posting, carryOver, statement, contribution, save, Answer, posted, carried, stated, given, saved, answersIn, historyOf}
@@ -58,6 +58,8 @@ pub record Right (cs : List Call) : Type 0 where
   pub kept : Kept (bookOf cs) (historyOf cs)
   -- the history's sums, and no two corrections on one account that name the same entry
   pub lawful : Lawful (historyOf cs)
+  -- bounds within which no sum saturates
+  pub bounded : Bounded (historyOf cs)
 
 -- proofs/Claim.antt shows it
 abbrev pub Demand3 : Type 0

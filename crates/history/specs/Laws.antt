@@ -47,10 +47,7 @@ abbrev pub Once : History → Type 0
 Once [] = Unit {0}
 Once (c ∷ h) = ((d : Raw) → In d h → Again c d → ⊥) × Once h
 
--- a bound on an account's amounts: 1,024 entries, none of which moves more than 10^12 cents
-abbrev pub amountBound : ℕ
-amountBound = 1024000000000000
-
+-- the demand's claims
 pub record Lawful (h : History) : Type 0 where
   -- an account's sums over the entries and posting by posting, and its amounts as the last entry leaves them
   pub conserved : (a : ℕ) → Conserved h a
@@ -60,16 +57,23 @@ pub record Lawful (h : History) : Type 0 where
   pub in-period : (c e : Raw) → In c h → In e h → kindOf (c .kind) ≡ kind.AddedCustomer → points c e ≡ true → c .day < e .day + period
   -- no two corrections on one account name the same entry
   pub once : Once h
-  -- The book's amounts, statements and queries equal plain sums (Claim, `kept` and `answered`), so no sum in a book so reached
-  -- saturates. Its limits are 1,024 entries, 2^64 - 1 cents and 65,535 customers added to an entry; these are the bounds.
+
+-- a bound on an account's amounts: 1,024 entries, none of which moves more than 10^12 cents
+abbrev pub amountBound : ℕ
+amountBound = 1024000000000000
+
+-- The book's amounts, statements and queries equal plain sums (Claim, `kept` and `answered`), so no sum in a book so reached
+-- saturates. Its limits are 1,024 entries, 2^64 - 1 cents and 65,535 customers added to an entry; these are the bounds.
+pub record Bounded (h : History) : Type 0 where
   pub room : length h ≤ entries
   pub arrears : (a : ℕ) → balance h a .arrears ≤ amountBound
   pub credit : (a : ℕ) → balance h a .credit ≤ amountBound
   pub deposit : (a : ℕ) → balance h a .deposit ≤ amountBound
   pub added : (e : Raw) → fate h e .added ≤ entries
 
--- proofs/Lawful.antt shows both
+-- proofs/Lawful.antt shows them
 pub record Laws : Type 0 where
   -- offers give such a history, whatever is offered
   pub valid : (rs : List Raw) → Valid (offers [] rs)
   pub lawful : (h : History) → Valid h → Lawful h
+  pub bounded : (h : History) → Valid h → Bounded h
