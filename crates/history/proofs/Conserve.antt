@@ -281,17 +281,17 @@ module _ {h : History} (v : Valid h) (r : Raw) (j : judge h r ≡ 0) where
   divided-hit : (e : Raw) → In e h → kindOf (e .kind) ≡ kind.Contribution → names r e ≡ true → Divided h e → Sort h r → Divided (r ∷ h) e
   divided-hit e m c n l (as-contribution k) = absurd (true≢false (sym n ∙ plain r e (ap naming k)))
   divided-hit e m c n l (as-added k i x f q d) =
-      let same : e ≡ x = names-found v r i x (ap naming k) f e m n in
+      let same : e ≡ x = names-found v r i x f e m n in
       divided-added e i k (f ∙ ap (λ y. found i y) (sym same)) l
   divided-hit e m c n l (as-bill k) = absurd (true≢false (sym n ∙ plain r e (ap naming k)))
   divided-hit e m c n l (as-payment k) = absurd (true≢false (sym n ∙ plain r e (ap naming k)))
   divided-hit e m c n l (as-deposit k z a) = absurd (true≢false (sym n ∙ plain r e (ap naming k)))
   divided-hit e m c n l (as-return k) = absurd (true≢false (sym n ∙ plain r e (ap naming k)))
   divided-hit e m c n l (as-expiry k i x f q o) =
-      let same : e ≡ x = names-found v r i x (ap naming k) f e m n in
+      let same : e ≡ x = names-found v r i x f e m n in
       divided-expired e k n (subst (λ y. fate h y .closed ≡ false) (sym same) o) l
   divided-hit e m c n l (as-correction k i x f bill q u) =
-      let same : e ≡ x = names-found v r i x (ap naming k) f e m n in
+      let same : e ≡ x = names-found v r i x f e m n in
       absurd (uncorrectable bill (sym c ∙ subst (λ (y : Raw). kindOf (y .kind) ≡ correctable bill) (sym same) q))
 
 pub divide : {h : History} → Valid h → (e : Raw) → In e h → kindOf (e .kind) ≡ kind.Contribution → Divided h e

@@ -29,7 +29,7 @@ use Rattle.queries.specs.Statement.{statementReplyOf, givenOf, statementOf}
 use Rattle.queries.specs.Statement as statements
 use Rattle.queries.specs.Contribution.{contributionReplyOf, figuresOf, contributionQueryOf}
 use Rattle.queries.specs.Contribution as contributions
-use Rattle.history.specs.History.{History, accounts, points, names, Sought, missing, found, find, Fate, fate, entryIn, asking, filter, onAccount, entriesOf, total, standingAmount, heldOf, toArrears, refundsPaid}
+use Rattle.history.specs.History.{History, accounts, points, names, Sought, missing, found, find, Fate, fate, entryIn, asking, filter, entriesOf, total, standingAmount, heldOf, toArrears, refundsPaid}
 use Rattle.history.specs.Laws.{Valid, empty, joins}
 use Rattle.history.specs.Agreement.{keptData, dataIn, keptEntry, keptChain, Kept}
 use Rattle.history.specs.Queries.{statementBy, statementIn, contributionBy, contributionIn}

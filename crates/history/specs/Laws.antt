@@ -47,13 +47,21 @@ abbrev pub Once : History → Type 0
 Once [] = Unit {0}
 Once (c ∷ h) = ((d : Raw) → In d h → Again c d → ⊥) × Once h
 
+-- the contribution of an added customer c
+pub record Contributed (h : History) (c : Raw) : Type 0 where
+  pub entry : Raw
+  pub member : In entry h
+  pub contribution : kindOf (entry .kind) ≡ kind.Contribution
+  pub aimed : points c entry ≡ true
+
 -- the demand's claims
 pub record Lawful (h : History) : Type 0 where
   -- an account's sums over the entries and posting by posting, and its amounts as the last entry leaves them
   pub conserved : (a : ℕ) → Conserved h a
   -- each contribution's refunds to arrears and paid out, what is held, and its expiry's retained
   pub divided : (e : Raw) → In e h → kindOf (e .kind) ≡ kind.Contribution → Divided h e
-  -- refunds are the added customers, with their days: none is 1,826 days or more after its contribution
+  -- refunds are the added customers, with their days: each has its contribution, and none is 1,826 days or more after it
+  pub contributed : (c : Raw) → In c h → kindOf (c .kind) ≡ kind.AddedCustomer → Contributed h c
   pub in-period : (c e : Raw) → In c h → In e h → kindOf (c .kind) ≡ kind.AddedCustomer → points c e ≡ true → c .day < e .day + period
   -- no two corrections on one account name the same entry
   pub once : Once h
