@@ -12,7 +12,7 @@ use Rattle.entries.specs.declared.kinds.Kind.{Kind}
 use Rattle.entries.specs.declared.kinds.Kind.the-variants as kind
 use Rattle.rules.specs.Formulas.{billed, interest}
 use Rattle.rules.specs.Moves.{settles, leaves}
-use Rattle.history.specs.History.{History, naming, names, found, find, Fate, fateOf, posted, refundOf, change, fate, Balance, Move, stays, charges, credits, refunds, deposits, returns, retains, moved, moveBy, balance, Amounts, answered, amounts, judge, filter, onAccount, entriesOf, total, amountOf, standingAmount, heldOf, addedUp, toArrears, refundsPaid}
+use Rattle.history.specs.History.{History, naming, names, found, find, Fate, fateOf, posted, refundOf, change, fate, Balance, Move, stays, charges, credits, refunds, deposits, returns, retains, moved, moveBy, balance, Amounts, answered, amounts, judge, filter, onAccount, entriesOf, total, amountOf, standingAmount, heldOf, addedUp, toArrears, refundsPaid, customers}
 use Rattle.history.specs.Laws.{Valid, empty, joins, In, newest, older, Conserved, Divided}
 use Rattle.history.proofs.Accept.{Sort, as-contribution, as-added, as-bill, as-payment, as-deposit, as-return, as-expiry, as-correction, correctable, sorted, Role, alone, upon, role}
 use Rattle.history.proofs.Names.{pointed, hit, fate-new, customers-new, Misses, none, miss, Hits, first, later, plain, misses-kind, hits, names-found, names-points, fate-cases, fate-miss, fate-hit, customers-miss, customers-hit, customers-other}
@@ -232,6 +232,10 @@ conserve (joins {r} {h} v j) a = go (λ n. conserve v n) (eqb (r .account) a) re
         (ih a)
 
 -- EACH CONTRIBUTION
+-- it is divided, and its customers are counted
+abbrev pub Parted : History → Raw → Type 0
+Parted h e = Divided h e × (fate h e .added ≡ customers h e)
+
 -- what is not closed has nothing retained
 still-open : (h : History) (e : Raw) → fate h e .closed ≡ false → fate h e .retained ≡ 0
 unfolding fate
@@ -246,19 +250,19 @@ uncorrectable false q = omega (arith, ap numberOf q)
 
 module _ {h : History} (v : Valid h) (r : Raw) (j : judge h r ≡ 0) where
   -- the contribution that joins
-  divided-new : Divided (r ∷ h) r
+  divided-new : Parted (r ∷ h) r
   divided-new =
-      rw (fate-new v r j, customers-new v (λ (x : Amounts). x .settled) r j, customers-new v (λ (x : Amounts). x .paidOut) r j) (omega arith)
+      rw (fate-new v r j, customers-new v (λ (x : Amounts). x .settled) r j, customers-new v (λ (x : Amounts). x .paidOut) r j, customers-new v (λ (x : Amounts). 1) r j) (omega arith)
 
-  divided-miss : (e : Raw) → names r e ≡ false → Divided h e → Divided (r ∷ h) e
+  divided-miss : (e : Raw) → names r e ≡ false → Parted h e → Parted (r ∷ h) e
   divided-miss e n l =
-      rw (fate-miss r h e n, customers-miss (λ (x : Amounts). x .settled) r h e n, customers-miss (λ (x : Amounts). x .paidOut) r h e n) l
+      rw (fate-miss r h e n, customers-miss (λ (x : Amounts). x .settled) r h e n, customers-miss (λ (x : Amounts). x .paidOut) r h e n, customers-miss (λ (x : Amounts). 1) r h e n) l
 
   n-refunded : (own x arrears paid old held retained : ℕ) → own ≡ paid + old + held + retained → x ≤ held →
       own ≡ (settles x arrears + paid) + (leaves x arrears + old) + (held - x) + retained
   n-refunded own x arrears paid old held retained l q = omega arith
 
-  divided-added : (e : Raw) (i : ℕ) → kindOf (r .kind) ≡ kind.AddedCustomer → find h r ≡ found i e → Divided h e → Divided (r ∷ h) e
+  divided-added : (e : Raw) (i : ℕ) → kindOf (r .kind) ≡ kind.AddedCustomer → find h r ≡ found i e → Parted h e → Parted (r ∷ h) e
   unfolding amounts
   divided-added e i k f l =
       let p = hit v r i e f .aimed in
@@ -268,17 +272,19 @@ module _ {h : History} (v : Valid h) (r : Raw) (j : judge h r ≡ 0) where
         fate-hit r h e (names-points r e (ap naming k) p),
         customers-hit (λ (x : Amounts). x .settled) r h e k p,
         customers-hit (λ (x : Amounts). x .paidOut) r h e k p,
+        customers-hit (λ (x : Amounts). 1) r h e k p,
         move-added h r b i e f k,
         k,
       )
-      (n-refunded (e .amount) x (b .arrears) (toArrears h e) (refundsPaid h e) (fate h e .held) (fate h e .retained) l (omega arith))
+      (n-refunded (e .amount) x (b .arrears) (toArrears h e) (refundsPaid h e) (fate h e .held) (fate h e .retained) (l .0) (omega arith), omega arith)
 
-  divided-expired : (e : Raw) → kindOf (r .kind) ≡ kind.Expiry → names r e ≡ true → fate h e .closed ≡ false → Divided h e → Divided (r ∷ h) e
+  divided-expired : (e : Raw) → kindOf (r .kind) ≡ kind.Expiry → names r e ≡ true → fate h e .closed ≡ false → Parted h e → Parted (r ∷ h) e
   divided-expired e k n o l =
-      rw (fate-hit r h e n, customers-other (λ (x : Amounts). x .settled) r h e (ap (λ (l : Kind). sameOf l kind.AddedCustomer) k), customers-other (λ (x : Amounts). x .paidOut) r h e (ap (λ (l : Kind). sameOf l kind.AddedCustomer) k), k)
+      let o′ = ap (λ (l : Kind). sameOf l kind.AddedCustomer) k in
+      rw (fate-hit r h e n, customers-other (λ (x : Amounts). x .settled) r h e o′, customers-other (λ (x : Amounts). x .paidOut) r h e o′, customers-other (λ (x : Amounts). 1) r h e o′, k)
       (omega (arith, still-open h e o))
 
-  divided-hit : (e : Raw) → In e h → kindOf (e .kind) ≡ kind.Contribution → names r e ≡ true → Divided h e → Sort h r → Divided (r ∷ h) e
+  divided-hit : (e : Raw) → In e h → kindOf (e .kind) ≡ kind.Contribution → names r e ≡ true → Parted h e → Sort h r → Parted (r ∷ h) e
   divided-hit e m c n l (as-contribution k) = absurd (true≢false (sym n ∙ plain r e (ap naming k)))
   divided-hit e m c n l (as-added k i x f q d) =
       let same : e ≡ x = names-found v r i x f e m n in
@@ -294,11 +300,11 @@ module _ {h : History} (v : Valid h) (r : Raw) (j : judge h r ≡ 0) where
       let same : e ≡ x = names-found v r i x f e m n in
       absurd (uncorrectable bill (sym c ∙ subst (λ (y : Raw). kindOf (y .kind) ≡ correctable bill) (sym same) q))
 
-pub divide : {h : History} → Valid h → (e : Raw) → In e h → kindOf (e .kind) ≡ kind.Contribution → Divided h e
+pub divide : {h : History} → Valid h → (e : Raw) → In e h → kindOf (e .kind) ≡ kind.Contribution → Parted h e
 divide (joins {r} {h} v j) e (newest q) c =
-    subst (λ y. Divided (r ∷ h) y) q (divided-new v r j)
+    subst (λ y. Parted (r ∷ h) y) q (divided-new v r j)
 divide (joins {r} {h} v j) e (older t) c = go (divide v e t c) (names r e) refl
   where
-    go : Divided h e → (u : Bool) → names r e ≡ u → Divided (r ∷ h) e
+    go : Parted h e → (u : Bool) → names r e ≡ u → Parted (r ∷ h) e
     go l true n = divided-hit v r j e t c n l (sorted h r j)
     go l false n = divided-miss v r j e n l

@@ -15,7 +15,8 @@ lawful : (h : History) → Valid h → Lawful h
 lawful h v =
     record {
       conserved = λ a. conserve v a;
-      divided = λ e m c. divide v e m c;
+      divided = λ e m c. divide v e m c .0;
+      counted = λ e m c. divide v e m c .1;
       contributed = λ c m k. refunded v c m k .0;
       in-period = λ c e m n k p. in-period v c e m n k p;
       once = once v;

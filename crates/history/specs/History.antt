@@ -314,3 +314,7 @@ toArrears h e = ofCustomers (λ (x : Amounts). x .settled) h e
 
 abbrev pub refundsPaid : History → Raw → ℕ
 refundsPaid h e = ofCustomers (λ (x : Amounts). x .paidOut) h e
+
+-- the customers added to e are the added customers that point at it, counted
+abbrev pub customers : History → Raw → ℕ
+customers h e = ofCustomers (λ (x : Amounts). 1) h e

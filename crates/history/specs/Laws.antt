@@ -8,7 +8,7 @@ use Rattle.entries.specs.Kinds.{kindOf}
 use Rattle.entries.specs.declared.raw.Raw.{Raw}
 use Rattle.entries.specs.declared.kinds.Kind.{Kind}
 use Rattle.entries.specs.declared.kinds.Kind.the-variants as kind
-use Rattle.history.specs.History.{History, Fate, Amounts, entries, period, points, fate, balance, judge, offers, entriesOf, total, amountOf, standingAmount, heldOf, addedUp, toArrears, refundsPaid}
+use Rattle.history.specs.History.{History, Fate, Amounts, entries, period, points, fate, balance, judge, offers, entriesOf, total, amountOf, standingAmount, heldOf, addedUp, toArrears, refundsPaid, customers}
 
 -- the histories that offers give: no refusal stopped any entry, read against those before it
 pub data Valid : History → Type 0 where
@@ -60,6 +60,8 @@ pub record Lawful (h : History) : Type 0 where
   pub conserved : (a : ℕ) → Conserved h a
   -- each contribution's refunds to arrears and paid out, what is held, and its expiry's retained
   pub divided : (e : Raw) → In e h → kindOf (e .kind) ≡ kind.Contribution → Divided h e
+  -- k counts the added customers of a contribution, all of them
+  pub counted : (e : Raw) → In e h → kindOf (e .kind) ≡ kind.Contribution → fate h e .added ≡ customers h e
   -- refunds are the added customers, with their days: each has its contribution, and none is 1,826 days or more after it
   pub contributed : (c : Raw) → In c h → kindOf (c .kind) ≡ kind.AddedCustomer → Contributed h c
   pub in-period : (c e : Raw) → In c h → In e h → kindOf (c .kind) ≡ kind.AddedCustomer → points c e ≡ true → c .day < e .day + period
