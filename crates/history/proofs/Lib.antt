@@ -14,3 +14,4 @@ pub mod Queries
 pub mod Claim
 pub mod Hosts
 pub mod Trips
+pub mod Witness
