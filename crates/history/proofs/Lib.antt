@@ -15,3 +15,4 @@ pub mod Claim
 pub mod Hosts
 pub mod Trips
 pub mod Witness
+pub mod Cited
