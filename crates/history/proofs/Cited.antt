@@ -4,20 +4,18 @@ use Prim.Native.Nat.{ℕ, _+_, _≤_, _<_}
 use native.Mathlib.Omega.{arith}
 use mathlib.Core.Bool.{true}
 use mathlib.Core.List.{List, [], _∷_, _++_}
-use lib.ListN.{length}
 use Rattle.measures.specs.Cents.{most}
 use Rattle.entries.specs.Kinds.{kindOf}
 use Rattle.entries.specs.declared.raw.Raw.{Raw}
-use Rattle.entries.specs.declared.kinds.Kind.{Kind}
 use Rattle.entries.specs.declared.kinds.Kind.the-variants as kind
 use Rattle.book.specs.Posting.{accountAt}
 use Rattle.book.specs.declared.Book.{Book}
 use Rattle.queries.specs.Chain.{chainAt, totalOf}
 use Rattle.queries.specs.Chain as chains
-use Rattle.history.specs.History.{History, points, Fate, fate, Amounts, entriesOf, total, amountOf, standingAmount, addedUp, toArrears, refundsPaid, customers}
-use Rattle.history.specs.Laws.{In, newest, older, Once, Again}
+use Rattle.history.specs.History.{History, points, fate, toArrears, refundsPaid, customers}
+use Rattle.history.specs.Laws.{In, newest, older, sumsOf, Once, Again}
 use Rattle.history.specs.Agreement.{Kept}
-use Rattle.history.specs.Calls.{Call, Answer, answersIn, historyOf}
+use Rattle.history.specs.Calls.{Call, answersIn, historyOf}
 use Rattle.history.specs.Claim.{bookOf, answersOf}
 use Rattle.history.specs.Witness.{calls, answers}
 use Rattle.history.proofs.Claim.{demand3}
@@ -46,10 +44,9 @@ module _ (cs : List Call) where
 
   -- the sums, with the book's amounts
   conserved : (a : ℕ) → 1 ≤ a → a ≤ 128 →
-      let sum : (Kind → Raw → Fate → ℕ) → ℕ = λ f. total f h (entriesOf h a) in
-      sum (amountOf kind.Contribution) + sum (standingAmount kind.Payment) + sum (amountOf kind.Deposit) + addedUp (λ (x : Amounts). x .interest) h a + accountAt b a .arrears .0
-      ≡ sum (standingAmount kind.Bill) + addedUp (λ (x : Amounts). x .paidOut) h a + addedUp (λ (x : Amounts). x .retained) h a +
-      totalOf chains.heldOf (chainAt b a) + accountAt b a .deposit .0 + accountAt b a .credit .0
+      let s = sumsOf h a in
+      s .contributions + s .payments + s .deposits + s .interest + accountAt b a .arrears .0
+      ≡ s .bills + s .paidOut + s .retained + totalOf chains.heldOf (chainAt b a) + accountAt b a .deposit .0 + accountAt b a .credit .0
   conserved a l m =
       let d = demand3 cs in
       omega (arith, d .lawful .conserved a, d .arrears a l m, d .credit a l m, d .deposit a l m, d .held a l m)
@@ -85,4 +82,4 @@ module _ (cs : List Call) where
 
 -- the book's own answers to the list of document 01's figures
 shown : answersOf calls ≡ answers
-shown = demand3 calls .answered ∙ witnessed
+shown = demand3 calls .answered ∙ witnessed .answered

@@ -20,15 +20,46 @@ pub data In (e : Raw) : History → Type 0 where
   newest : {r : Raw} {h : History} → r ≡ e → In e (r ∷ h)
   older : {r : Raw} {h : History} → In e h → In e (r ∷ h)
 
--- An account's sums and amounts: contributions, payments, deposits, interest and arrears together are
--- bills, paid out, retained, contributions held, deposit held and credit together.
-abbrev pub Conserved : History → ℕ → Type 0
-Conserved h a =
+-- An account's sums over its entries and posting by posting, and its amounts as the last entry leaves them.
+pub record Sums : Type 0 where
+  pub contributions : ℕ
+  pub payments : ℕ
+  pub deposits : ℕ
+  pub interest : ℕ
+  pub arrears : ℕ
+  pub bills : ℕ
+  pub paidOut : ℕ
+  pub retained : ℕ
+  pub held : ℕ
+  pub deposit : ℕ
+  pub credit : ℕ
+
+abbrev pub sumsOf : History → ℕ → Sums
+sumsOf h a =
     let b = balance h a in
     let sum : (Kind → Raw → Fate → ℕ) → ℕ = λ f. total f h (entriesOf h a) in
     let added : (Amounts → ℕ) → ℕ = λ f. addedUp f h a in
-    sum (amountOf kind.Contribution) + sum (standingAmount kind.Payment) + sum (amountOf kind.Deposit) + added (λ x. x .interest) + b .arrears
-    ≡ sum (standingAmount kind.Bill) + added (λ x. x .paidOut) + added (λ x. x .retained) + sum heldOf + b .deposit + b .credit
+    record {
+      contributions = sum (amountOf kind.Contribution);
+      payments = sum (standingAmount kind.Payment);
+      deposits = sum (amountOf kind.Deposit);
+      interest = added (λ x. x .interest);
+      arrears = b .arrears;
+      bills = sum (standingAmount kind.Bill);
+      paidOut = added (λ x. x .paidOut);
+      retained = added (λ x. x .retained);
+      held = sum heldOf;
+      deposit = b .deposit;
+      credit = b .credit;
+    }
+
+-- Contributions, payments, deposits, interest and arrears together are bills, paid out, retained, contributions held, deposit held
+-- and credit together.
+abbrev pub Conserved : History → ℕ → Type 0
+Conserved h a =
+    let s = sumsOf h a in
+    s .contributions + s .payments + s .deposits + s .interest + s .arrears
+    ≡ s .bills + s .paidOut + s .retained + s .held + s .deposit + s .credit
 
 -- A contribution is refunds to arrears, refunds paid out, what is held and what is retained together.
 abbrev pub Divided : History → Raw → Type 0
@@ -56,7 +87,7 @@ pub record Contributed (h : History) (c : Raw) : Type 0 where
 
 -- the demand's claims
 pub record Lawful (h : History) : Type 0 where
-  -- an account's sums over the entries and posting by posting, and its amounts as the last entry leaves them
+  -- each account's sums and amounts
   pub conserved : (a : ℕ) → Conserved h a
   -- each contribution's refunds to arrears and paid out, what is held, and its expiry's retained
   pub divided : (e : Raw) → In e h → kindOf (e .kind) ≡ kind.Contribution → Divided h e

@@ -1,13 +1,14 @@
 -- Document 01's figures P1 to P6, P9, P11 and P12 as one list of calls with their answers, worked out from document 01. It shows that
--- demand 3 speaks of them: each kind of entry joins, and the amounts are not zero.
+-- demand 3 speaks of them: each kind of entry joins, and no sum of it is always zero.
 use Prim.Native.Nat.{ℕ, min}
 use mathlib.Core.Path.{_≡_}
 use mathlib.Core.Bool.{true, false}
 use mathlib.Core.List.{List, [], _∷_, map}
 use Rattle.entries.specs.declared.raw.Raw.{Raw}
 use Rattle.rules.specs.Answers.{reply}
+use Rattle.history.specs.Laws.{Sums, sumsOf}
 use Rattle.history.specs.Queries.{statementReply, contributionReply}
-use Rattle.history.specs.Calls.{Call, posting, carryOver, statement, contribution, Answer, posted, carried, stated, given, answersIn}
+use Rattle.history.specs.Calls.{Call, posting, carryOver, statement, contribution, Answer, posted, carried, stated, given, answersIn, historyOf}
 
 -- kind, node, account, day, serial; amount, a, b; the serial of node 1's entry that it names, or 0
 abbrev entry : ℕ → ℕ → ℕ → ℕ → ℕ → ℕ → ℕ → ℕ → ℕ → Raw
@@ -83,6 +84,11 @@ witness =
     (statement 5 2 gives stated (statementReply 0 0 4000 0 0 2 6000 10000 true)) ∷
     (posting (entry 8 1 5 100 19 1000 0 0 17) gives accepted 20 0 0 0 0) ∷
     (statement 5 3 gives stated (statementReply 0 5000 0 0 0 3 6000 1000 true)) ∷
+    -- a contribution of 1,000, a payment of 700 and a deposit of 500, which stay held, in credit and deposited
+    (posting (entry 1 1 6 100 20 1000 10 1 0) gives accepted 21 0 0 0 0) ∷
+    (posting (entry 4 1 6 100 21 700 0 0 0) gives accepted 22 0 0 0 0) ∷
+    (posting (entry 5 1 6 100 22 500 0 0 0) gives accepted 23 0 0 0 0) ∷
+    (statement 6 3 gives stated (statementReply 0 0 700 500 1000 3 0 700 true)) ∷
     []
 
 abbrev pub calls : List Call
@@ -91,6 +97,34 @@ calls = map (λ (x : Answered). x .call) witness
 abbrev pub answers : List Answer
 answers = map (λ (x : Answered). x .answer) witness
 
+-- an account's sums after the list: contributions, payments, deposits, interest, arrears; bills, paid out, retained, held, deposit held, credit
+abbrev sums : ℕ → ℕ → ℕ → ℕ → ℕ → ℕ → ℕ → ℕ → ℕ → ℕ → ℕ → Sums
+sums contributions payments deposits interest arrears bills paidOut retained held deposit credit =
+    record {
+      contributions = contributions;
+      payments = payments;
+      deposits = deposits;
+      interest = interest;
+      arrears = arrears;
+      bills = bills;
+      paidOut = paidOut;
+      retained = retained;
+      held = held;
+      deposit = deposit;
+      credit = credit;
+    }
+
+abbrev pub summed : List Sums
+summed =
+    sums 300000 0 0 0 0 80000 220000 0 0 0 0 ∷
+    sums 60000 0 0 0 0 0 15400 44600 0 0 0 ∷
+    sums 0 0 0 0 10000 10000 0 0 0 0 0 ∷
+    sums 0 0 30000 1560 0 0 31560 0 0 0 0 ∷
+    sums 0 1000 0 0 5000 6000 0 0 0 0 0 ∷
+    sums 1000 700 500 0 0 0 0 0 1000 500 700 ∷
+    []
+
 -- proofs/Witness.antt shows it
-abbrev pub Witness : Type 0
-Witness = answersIn calls ≡ answers
+pub record Witness : Type 0 where
+  pub answered : answersIn calls ≡ answers
+  pub accounts : map (λ (a : ℕ). sumsOf (historyOf calls) a) (1 ∷ 2 ∷ 3 ∷ 4 ∷ 5 ∷ 6 ∷ []) ≡ summed
