@@ -13,7 +13,7 @@ use Rattle.entries.specs.declared.kinds.Kind.the-variants as kind
 use Rattle.rules.specs.Formulas.{billed, interest}
 use Rattle.rules.specs.Moves.{settles, leaves}
 use Rattle.history.specs.History.{History, naming, names, found, find, Fate, fateOf, posted, refundOf, change, fate, Balance, Move, stays, charges, credits, refunds, deposits, returns, retains, moved, moveBy, balance, Amounts, answered, amounts, judge, filter, onAccount, entriesOf, total, amountOf, standingAmount, heldOf, addedUp, toArrears, refundsPaid, customers}
-use Rattle.history.specs.Laws.{Valid, empty, joins, In, newest, older, Conserved, Divided}
+use Rattle.history.specs.Laws.{Valid, empty, joins, In, newest, older, sumsOf, Conserved, Divided}
 use Rattle.history.proofs.Accept.{Sort, as-contribution, as-added, as-bill, as-payment, as-deposit, as-return, as-expiry, as-correction, correctable, sorted, Role, alone, upon, role}
 use Rattle.history.proofs.Names.{pointed, hit, fate-new, customers-new, Misses, none, miss, Hits, first, later, plain, misses-kind, hits, names-found, names-points, fate-cases, fate-miss, fate-hit, customers-miss, customers-hit, customers-other}
 use Rattle.history.proofs.Moves.{move-contribution, move-bill, move-payment, move-deposit, move-return, move-added, move-expiry, move-correction, corrects, restates-cases}
@@ -46,18 +46,18 @@ abbrev pub postedAs : Kind → Raw → Fate
 postedAs k e = fateOf (e .amount) 0 0 false (cond (sameOf k kind.Bill) (billed (e .amount) (e .b) (e .a)) (e .amount)) false
 
 -- the five sums over entries
-record Sums : Type 0 where
+record EntrySums : Type 0 where
   contributed : ℕ
   paid : ℕ
   deposited : ℕ
   billed : ℕ
   held : ℕ
 
-abbrev each : ((Kind → Raw → Fate → ℕ) → ℕ) → Sums
+abbrev each : ((Kind → Raw → Fate → ℕ) → ℕ) → EntrySums
 each s = record { contributed = s (amountOf kind.Contribution); paid = s (standingAmount kind.Payment); deposited = s (amountOf kind.Deposit); billed = s (standingAmount kind.Bill); held = s heldOf }
 
 -- how the sums move: the entry's own part is added, and of what it names the new part takes the old one's place
-record Shifted (s s′ own old new : Sums) : Type 0 where
+record Shifted (s s′ own old new : EntrySums) : Type 0 where
   contributed : s′ .contributed + old .contributed ≡ own .contributed + s .contributed + new .contributed
   paid : s′ .paid + old .paid ≡ own .paid + s .paid + new .paid
   deposited : s′ .deposited + old .deposited ≡ own .deposited + s .deposited + new .deposited
@@ -79,16 +79,16 @@ plus x u =
       interest = x .interest + u .interest;
     }
 
-abbrev Law : Sums → Amounts → Balance → Type 0
+abbrev Law : EntrySums → Amounts → Balance → Type 0
 Law s u b =
-    s .contributed + s .paid + s .deposited + u .interest + b .arrears
-    ≡ s .billed + u .paidOut + u .retained + s .held + b .deposit + b .credit
+    Conserved
+    (record { contributions = s .contributed; payments = s .paid; deposits = s .deposited; interest = u .interest; arrears = b .arrears; bills = s .billed; paidOut = u .paidOut; retained = u .retained; held = s .held; deposit = b .deposit; credit = b .credit })
 
-abbrev nil : Sums
+abbrev nil : EntrySums
 nil = each (λ f. 0)
 
 -- the law, move by move, on plain numbers
-module _ (s s′ : Sums) (u : Amounts) (b : Balance) (l : Law s u b) (r : Raw) where
+module _ (s s′ : EntrySums) (u : Amounts) (b : Balance) (l : Law s u b) (r : Raw) where
   abbrev After : Move → Type 0
   After m = Law s′ (plus (answered m b) u) (moved m b)
 
@@ -150,7 +150,7 @@ module _ {h : History} (v : Valid h) (r : Raw) (j : judge h r ≡ 0) where
   private-same : eqb (r .account) (r .account) ≡ true
   private-same = eq-eqb (r .account) (r .account) refl
 
-  abbrev sums : History → Sums
+  abbrev sums : History → EntrySums
   sums g = each (λ f. total f g (entriesOf g (r .account)))
 
   abbrev ups : History → Amounts
@@ -186,11 +186,11 @@ module _ {h : History} (v : Valid h) (r : Raw) (j : judge h r ≡ 0) where
   unfolding addedUp amounts
   added-after f = rw private-same
 
-  from-move : (m : Move) → moveBy h r b ≡ m → Law (sums (r ∷ h)) (plus (answered m b) (ups h)) (moved m b) → Conserved (r ∷ h) (r .account)
+  from-move : (m : Move) → moveBy h r b ≡ m → Law (sums (r ∷ h)) (plus (answered m b) (ups h)) (moved m b) → Conserved (sumsOf (r ∷ h) (r .account))
   from-move m q l =
       rw (balance-after, added-after (λ (x : Amounts). x .interest), added-after (λ (x : Amounts). x .paidOut), added-after (λ (x : Amounts). x .retained), q) l
 
-  own : Conserved h (r .account) → Sort h r → Conserved (r ∷ h) (r .account)
+  own : Conserved (sumsOf h (r .account)) → Sort h r → Conserved (sumsOf (r ∷ h) (r .account))
   own l (as-contribution k) =
       from-move stays (move-contribution h r b k)
       (n-contribution (sums h) (sums (r ∷ h)) (ups h) b l r (posted r) refl (rw k at (here-plain (ap naming k))))
@@ -218,13 +218,13 @@ module _ {h : History} (v : Valid h) (r : Raw) (j : judge h r ≡ 0) where
       from-move (corrects bill (fate h e .standing) (r .amount)) (move-correction h r b i e f bill k c)
       (n-correction (sums h) (sums (r ∷ h)) (ups h) b l r e (fate (r ∷ h) r) (fate h e) bill (rw (k, c) at (here-named (ap naming k) i e f)))
 
-pub conserve : {h : History} → Valid h → (a : ℕ) → Conserved h a
+pub conserve : {h : History} → Valid h → (a : ℕ) → Conserved (sumsOf h a)
 unfolding total filter addedUp balance
 conserve empty a = refl
 conserve (joins {r} {h} v j) a = go (λ n. conserve v n) (eqb (r .account) a) refl
   where
-    go : ((n : ℕ) → Conserved h n) → (t : Bool) → eqb (r .account) a ≡ t → Conserved (r ∷ h) a
-    go ih true t = subst (λ (n : ℕ). Conserved (r ∷ h) n) (eqb-true (r .account) a t) (own v r j (ih (r .account)) (sorted h r j))
+    go : ((n : ℕ) → Conserved (sumsOf h n)) → (t : Bool) → eqb (r .account) a ≡ t → Conserved (sumsOf (r ∷ h) a)
+    go ih true t = subst (λ (n : ℕ). Conserved (sumsOf (r ∷ h) n)) (eqb-true (r .account) a t) (own v r j (ih (r .account)) (sorted h r j))
     go ih false t =
         let s = still v r j a t (role h r (sorted h r j)) in
         let u = added-still v r j a t in

@@ -55,9 +55,8 @@ sumsOf h a =
 
 -- Contributions, payments, deposits, interest and arrears together are bills, paid out, retained, contributions held, deposit held
 -- and credit together.
-abbrev pub Conserved : History → ℕ → Type 0
-Conserved h a =
-    let s = sumsOf h a in
+abbrev pub Conserved : Sums → Type 0
+Conserved s =
     s .contributions + s .payments + s .deposits + s .interest + s .arrears
     ≡ s .bills + s .paidOut + s .retained + s .held + s .deposit + s .credit
 
@@ -88,7 +87,7 @@ pub record Contributed (h : History) (c : Raw) : Type 0 where
 -- the demand's claims
 pub record Lawful (h : History) : Type 0 where
   -- each account's sums and amounts
-  pub conserved : (a : ℕ) → Conserved h a
+  pub conserved : (a : ℕ) → Conserved (sumsOf h a)
   -- each contribution's refunds to arrears and paid out, what is held, and its expiry's retained
   pub divided : (e : Raw) → In e h → kindOf (e .kind) ≡ kind.Contribution → Divided h e
   -- k counts the added customers of a contribution, all of them
