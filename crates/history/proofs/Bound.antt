@@ -57,7 +57,7 @@ standing-small (joins {r} {h} v j) e w =
     fate-cases (λ f. f .standing ≤ large) (names r e) (kindOf (r .kind)) r e (fate h e) ih ih ih (omega (arith, accepts h r j .ranges .amount))
 
 -- an account's amounts
-pub record Bounded (n : ℕ) (b : Balance) : Type 0 where
+pub record Small (n : ℕ) (b : Balance) : Type 0 where
   pub arrears : b .arrears ≤ large * n
   pub credit : b .credit ≤ large * n
   pub deposit : b .deposit ≤ amountMost
@@ -73,7 +73,7 @@ Modest (deposits x rate day) = (x ≤ amountMost) × (rate ≤ 2000)
 Modest (returns i) = i ≤ large
 Modest (retains x) = Unit {0}
 
-moved-bounded : (m : Move) (n : ℕ) (b : Balance) → Modest m → Bounded n b → Bounded (suc n) (moved m b)
+moved-bounded : (m : Move) (n : ℕ) (b : Balance) → Modest m → Small n b → Small (suc n) (moved m b)
 moved-bounded stays n b s w = omega arith
 moved-bounded (charges x) n b s w = omega arith
 moved-bounded (credits x) n b s w = omega arith
@@ -86,7 +86,7 @@ modest-corrects : (bill : Bool) (x y : ℕ) → x ≤ large → y ≤ large → 
 modest-corrects true x y p q = restates-cases Modest x y (λ l. omega arith) (λ l. omega arith)
 modest-corrects false x y p q = restates-cases Modest y x (λ l. omega arith) (λ l. omega arith)
 
-module _ {h : History} (v : Valid h) (r : Raw) (j : judge h r ≡ 0) (n : ℕ) (b : Balance) (w : Bounded n b) where
+module _ {h : History} (v : Valid h) (r : Raw) (j : judge h r ≡ 0) (n : ℕ) (b : Balance) (w : Small n b) where
   modest-by : Sort h r → Modest (moveBy h r b)
   modest-by (as-contribution k) = rw (move-contribution h r b k) tt
   modest-by (as-added k i e f c d) = rw (move-added h r b i e f k) tt
@@ -107,11 +107,11 @@ module _ {h : History} (v : Valid h) (r : Raw) (j : judge h r ≡ 0) (n : ℕ) (
   pub modest : Modest (moveBy h r b)
   modest = modest-by (sorted h r j)
 
-pub bounded : {h : History} → Valid h → (a : ℕ) → Bounded (length h) (balance h a)
+pub bounded : {h : History} → Valid h → (a : ℕ) → Small (length h) (balance h a)
 unfolding balance
 bounded empty a = omega arith
 bounded (joins {r} {h} v j) a = go (bounded v a) (eqb (r .account) a)
   where
-    go : Bounded (length h) (balance h a) → (t : Bool) → Bounded (suc (length h)) (cond t (moved (moveBy h r (balance h a)) (balance h a)) (balance h a))
+    go : Small (length h) (balance h a) → (t : Bool) → Small (suc (length h)) (cond t (moved (moveBy h r (balance h a)) (balance h a)) (balance h a))
     go w true = moved-bounded (moveBy h r (balance h a)) (length h) (balance h a) (modest v r j (length h) (balance h a) w) w
     go w false = omega arith

@@ -19,7 +19,7 @@ use Rattle.history.proofs.Accept.{fits}
 use Rattle.history.proofs.Lawful.{laws}
 use Rattle.history.proofs.Agree.{agreement}
 use Rattle.history.proofs.Carry.{carry-agreement}
-use Rattle.history.proofs.Queries.{chain-total, held-read, statement-same, contribution-same}
+use Rattle.history.proofs.Queries.{chain-reads, reads-total, held-read, statement-same, contribution-same}
 
 save-same : (b : Book) (h : History) → Kept b h → (buffer : List ℕ) → saved (saveOf b buffer .refusal) (saveOf b buffer .bytes) ≡ saveIn h buffer
 unfolding saveOf saveIn
@@ -66,7 +66,8 @@ demand3 cs =
       arrears = λ a l m. ap (λ (x : Account). x .arrears .0) (w .agrees .account a l m);
       credit = λ a l m. ap (λ (x : Account). x .credit .0) (w .agrees .account a l m);
       deposit = λ a l m. ap (λ (x : Account). x .deposit .0) (w .agrees .account a l m);
-      held = λ a l m. rw (agreement .chain (bookOf cs) h w a l m) (chain-total chains.heldOf heldOf h a (held-read h) h);
+      held = λ a l m. rw (agreement .chain (bookOf cs) h w a l m) (reads-total chains.heldOf heldOf h (held-read h) (chain-reads h h a));
       kept = w;
       lawful = laws .lawful h (w .valid);
+      bounded = laws .bounded h (w .valid);
     }

@@ -12,43 +12,52 @@ use Rattle.entries.specs.declared.kinds.Kind.{Kind}
 use Rattle.entries.specs.declared.kinds.Kind.the-variants as kind
 use Rattle.rules.specs.Formulas.{billed, interest}
 use Rattle.rules.specs.Moves.{settles, leaves}
-use Rattle.history.specs.History.{History, naming, names, found, find, Fate, fateOf, posted, refundOf, change, fate, Balance, Move, stays, charges, credits, refunds, deposits, returns, retains, moved, moveBy, balance, Amounts, answered, amounts, judge, total, amountOf, standingAmount, heldOf, addedUp, toArrears, refundsPaid}
-use Rattle.history.specs.Laws.{Valid, empty, joins, In, newest, older, Conserved, Divided}
+use Rattle.history.specs.History.{History, naming, names, found, find, Fate, fateOf, posted, refundOf, change, fate, Balance, Move, stays, charges, credits, refunds, deposits, returns, retains, moved, moveBy, balance, Amounts, answered, amounts, judge, filter, onAccount, entriesOf, total, amountOf, standingAmount, heldOf, addedUp, toArrears, refundsPaid, customers}
+use Rattle.history.specs.Laws.{Valid, empty, joins, In, newest, older, sumsOf, Conserved, Divided}
 use Rattle.history.proofs.Accept.{Sort, as-contribution, as-added, as-bill, as-payment, as-deposit, as-return, as-expiry, as-correction, correctable, sorted, Role, alone, upon, role}
 use Rattle.history.proofs.Names.{pointed, hit, fate-new, customers-new, Misses, none, miss, Hits, first, later, plain, misses-kind, hits, names-found, names-points, fate-cases, fate-miss, fate-hit, customers-miss, customers-hit, customers-other}
 use Rattle.history.proofs.Moves.{move-contribution, move-bill, move-payment, move-deposit, move-return, move-added, move-expiry, move-correction, corrects, restates-cases}
 
+-- a sum over the entries that pass a test: an entry's own part, and the rest
+pub total-filter : (f : Kind → Raw → Fate → ℕ) (all : History) (p : Raw → Bool) (r : Raw) (h : History) →
+    total f all (filter p (r ∷ h)) ≡ cond (p r) (f (kindOf (r .kind)) r (fate all r)) 0 + total f all (filter p h)
+unfolding total filter
+total-filter f all p r h = go (p r)
+  where
+    go : (t : Bool) → total f all (cond t (r ∷ filter p h) (filter p h)) ≡ cond t (f (kindOf (r .kind)) r (fate all r)) 0 + total f all (filter p h)
+    go true = refl
+    go false = omega arith
+
 -- a sum as the history grows, whatever is read off the entries
-module _ (f : Kind → Raw → Fate → ℕ) (c : Raw) (h : History) (a : ℕ) where
-  pub total-miss : {g : History} → Misses c g → total f (c ∷ h) g a ≡ total f h g a
-  unfolding total
+module _ (f : Kind → Raw → Fate → ℕ) (c : Raw) (h : History) (p : Raw → Bool) where
+  pub total-miss : {g : History} → Misses c g → total f (c ∷ h) (filter p g) ≡ total f h (filter p g)
+  unfolding total filter
   total-miss none = refl
-  total-miss (miss {x} {g} e m) = rw (fate-miss c h x e, total-miss m)
+  total-miss (miss {x} {g} e m) = rw (total-filter, total-filter, fate-miss c h x e, total-miss m)
 
   pub total-hit : {i : ℕ} {e : Raw} {g : History} → Hits c i e g →
-      total f (c ∷ h) g a + cond (eqb (e .account) a) (f (kindOf (e .kind)) e (fate h e)) 0 ≡
-      total f h g a + cond (eqb (e .account) a) (f (kindOf (e .kind)) e (change (kindOf (c .kind)) c e (fate h e))) 0
-  unfolding total
-  total-hit {e = e} (first {x} {g} n s l m) = rw (← s, fate-hit c h x n, total-miss m) (omega arith)
-  total-hit (later {x} {g} n t) = rw (fate-miss c h x n) (omega (arith, total-hit t))
+      total f (c ∷ h) (filter p g) + cond (p e) (f (kindOf (e .kind)) e (fate h e)) 0 ≡
+      total f h (filter p g) + cond (p e) (f (kindOf (e .kind)) e (change (kindOf (c .kind)) c e (fate h e))) 0
+  total-hit {e = e} (first {x} {g} n s l m) = rw (← s, total-filter, total-filter, fate-hit c h x n, total-miss m) (omega arith)
+  total-hit (later {x} {g} n t) = rw (total-filter, total-filter, fate-miss c h x n) (omega (arith, total-hit t))
 
 -- a posted entry's fate, of a kind
 abbrev pub postedAs : Kind → Raw → Fate
 postedAs k e = fateOf (e .amount) 0 0 false (cond (sameOf k kind.Bill) (billed (e .amount) (e .b) (e .a)) (e .amount)) false
 
 -- the five sums over entries
-record Sums : Type 0 where
+record EntrySums : Type 0 where
   contributed : ℕ
   paid : ℕ
   deposited : ℕ
   billed : ℕ
   held : ℕ
 
-abbrev each : ((Kind → Raw → Fate → ℕ) → ℕ) → Sums
+abbrev each : ((Kind → Raw → Fate → ℕ) → ℕ) → EntrySums
 each s = record { contributed = s (amountOf kind.Contribution); paid = s (standingAmount kind.Payment); deposited = s (amountOf kind.Deposit); billed = s (standingAmount kind.Bill); held = s heldOf }
 
 -- how the sums move: the entry's own part is added, and of what it names the new part takes the old one's place
-record Shifted (s s′ own old new : Sums) : Type 0 where
+record Shifted (s s′ own old new : EntrySums) : Type 0 where
   contributed : s′ .contributed + old .contributed ≡ own .contributed + s .contributed + new .contributed
   paid : s′ .paid + old .paid ≡ own .paid + s .paid + new .paid
   deposited : s′ .deposited + old .deposited ≡ own .deposited + s .deposited + new .deposited
@@ -70,16 +79,16 @@ plus x u =
       interest = x .interest + u .interest;
     }
 
-abbrev Law : Sums → Amounts → Balance → Type 0
+abbrev Law : EntrySums → Amounts → Balance → Type 0
 Law s u b =
-    s .contributed + s .paid + s .deposited + u .interest + b .arrears
-    ≡ s .billed + u .paidOut + u .retained + s .held + b .deposit + b .credit
+    Conserved
+    (record { contributions = s .contributed; payments = s .paid; deposits = s .deposited; interest = u .interest; arrears = b .arrears; bills = s .billed; paidOut = u .paidOut; retained = u .retained; held = s .held; deposit = b .deposit; credit = b .credit })
 
-abbrev nil : Sums
+abbrev nil : EntrySums
 nil = each (λ f. 0)
 
 -- the law, move by move, on plain numbers
-module _ (s s′ : Sums) (u : Amounts) (b : Balance) (l : Law s u b) (r : Raw) where
+module _ (s s′ : EntrySums) (u : Amounts) (b : Balance) (l : Law s u b) (r : Raw) where
   abbrev After : Move → Type 0
   After m = Law s′ (plus (answered m b) u) (moved m b)
 
@@ -118,18 +127,15 @@ module _ (s s′ : Sums) (u : Amounts) (b : Balance) (l : Law s u b) (r : Raw) w
 module _ {h : History} (v : Valid h) (r : Raw) (j : judge h r ≡ 0) (a : ℕ) where
   -- the sums over the older entries after one that names nothing, and after one that does
   changed : naming (kindOf (r .kind)) ≡ true → (i : ℕ) (e : Raw) → find h r ≡ found i e → (f : Kind → Raw → Fate → ℕ) →
-      total f (r ∷ h) h a + cond (eqb (r .account) a) (f (kindOf (e .kind)) e (fate h e)) 0 ≡
-      total f h h a + cond (eqb (r .account) a) (f (kindOf (e .kind)) e (change (kindOf (r .kind)) r e (fate h e))) 0
+      total f (r ∷ h) (entriesOf h a) + cond (eqb (r .account) a) (f (kindOf (e .kind)) e (fate h e)) 0 ≡
+      total f h (entriesOf h a) + cond (eqb (r .account) a) (f (kindOf (e .kind)) e (change (kindOf (r .kind)) r e (fate h e))) 0
   changed k i e q f =
-      subst (λ (n : ℕ). total f (r ∷ h) h a + cond (eqb n a) (f (kindOf (e .kind)) e (fate h e)) 0 ≡
-      total f h h a + cond (eqb n a) (f (kindOf (e .kind)) e (change (kindOf (r .kind)) r e (fate h e))) 0)
-      (pointed r e (hit v r i e q .aimed) .account) (total-hit f r h a (hits v r i e k q))
+      rw (ap (λ (n : ℕ). eqb n a) (pointed r e (hit v r i e q .aimed) .account)) at (total-hit f r h (onAccount a) (hits v r i e k q))
 
   -- another account's sums stay
-  still : eqb (r .account) a ≡ false → Role h r → (f : Kind → Raw → Fate → ℕ) → total f (r ∷ h) (r ∷ h) a ≡ total f h h a
-  unfolding total
-  still t (alone k) f = rw t (omega (arith, total-miss f r h a (misses-kind r k h)))
-  still t (upon k i e q) f = rw t (omega (arith, rw t at (changed k i e q f)))
+  still : eqb (r .account) a ≡ false → Role h r → (f : Kind → Raw → Fate → ℕ) → total f (r ∷ h) (entriesOf (r ∷ h) a) ≡ total f h (entriesOf h a)
+  still t (alone k) f = rw (total-filter, t) (omega (arith, total-miss f r h (onAccount a) (misses-kind r k h)))
+  still t (upon k i e q) f = rw (total-filter, t) (omega (arith, rw t at (changed k i e q f)))
 
   added-still : eqb (r .account) a ≡ false → (f : Amounts → ℕ) → addedUp f (r ∷ h) a ≡ addedUp f h a
   unfolding addedUp
@@ -144,8 +150,8 @@ module _ {h : History} (v : Valid h) (r : Raw) (j : judge h r ≡ 0) where
   private-same : eqb (r .account) (r .account) ≡ true
   private-same = eq-eqb (r .account) (r .account) refl
 
-  abbrev sums : History → Sums
-  sums g = each (λ f. total f g g (r .account))
+  abbrev sums : History → EntrySums
+  sums g = each (λ f. total f g (entriesOf g (r .account)))
 
   abbrev ups : History → Amounts
   ups g =
@@ -160,19 +166,17 @@ module _ {h : History} (v : Valid h) (r : Raw) (j : judge h r ≡ 0) where
   b = balance h (r .account)
 
   here-plain : naming (kindOf (r .kind)) ≡ false → Shifted (sums h) (sums (r ∷ h)) (each (λ f. f (kindOf (r .kind)) r (posted r))) nil nil
-  unfolding total
   here-plain k =
-      shift (λ f. total f h h (r .account)) (λ f. total f (r ∷ h) (r ∷ h) (r .account)) (λ f. f (kindOf (r .kind)) r (posted r)) (λ f. 0) (λ f. 0)
-      (λ f. rw (private-same, total-miss f r h (r .account) (misses-kind r k h), fate-new v r j) (omega arith))
+      shift (λ f. total f h (entriesOf h (r .account))) (λ f. total f (r ∷ h) (entriesOf (r ∷ h) (r .account))) (λ f. f (kindOf (r .kind)) r (posted r)) (λ f. 0) (λ f. 0)
+      (λ f. rw (total-filter, private-same, total-miss f r h (onAccount (r .account)) (misses-kind r k h), fate-new v r j) (omega arith))
 
   here-named : naming (kindOf (r .kind)) ≡ true → (i : ℕ) (e : Raw) → find h r ≡ found i e →
       Shifted (sums h) (sums (r ∷ h)) (each (λ f. f (kindOf (r .kind)) r (fate (r ∷ h) r))) (each (λ f. f (kindOf (e .kind)) e (fate h e)))
       (each (λ f. f (kindOf (e .kind)) e (change (kindOf (r .kind)) r e (fate h e))))
-  unfolding total
   here-named k i e q =
-      shift (λ f. total f h h (r .account)) (λ f. total f (r ∷ h) (r ∷ h) (r .account)) (λ f. f (kindOf (r .kind)) r (fate (r ∷ h) r))
+      shift (λ f. total f h (entriesOf h (r .account))) (λ f. total f (r ∷ h) (entriesOf (r ∷ h) (r .account))) (λ f. f (kindOf (r .kind)) r (fate (r ∷ h) r))
       (λ f. f (kindOf (e .kind)) e (fate h e)) (λ f. f (kindOf (e .kind)) e (change (kindOf (r .kind)) r e (fate h e)))
-      (λ f. rw private-same (let c = rw private-same at (changed v r j (r .account) k i e q f) in omega arith))
+      (λ f. rw (total-filter, private-same) (let c = rw private-same at (changed v r j (r .account) k i e q f) in omega arith))
 
   balance-after : balance (r ∷ h) (r .account) ≡ moved (moveBy h r b) b
   unfolding balance
@@ -182,11 +186,11 @@ module _ {h : History} (v : Valid h) (r : Raw) (j : judge h r ≡ 0) where
   unfolding addedUp amounts
   added-after f = rw private-same
 
-  from-move : (m : Move) → moveBy h r b ≡ m → Law (sums (r ∷ h)) (plus (answered m b) (ups h)) (moved m b) → Conserved (r ∷ h) (r .account)
+  from-move : (m : Move) → moveBy h r b ≡ m → Law (sums (r ∷ h)) (plus (answered m b) (ups h)) (moved m b) → Conserved (sumsOf (r ∷ h) (r .account))
   from-move m q l =
       rw (balance-after, added-after (λ (x : Amounts). x .interest), added-after (λ (x : Amounts). x .paidOut), added-after (λ (x : Amounts). x .retained), q) l
 
-  own : Conserved h (r .account) → Sort h r → Conserved (r ∷ h) (r .account)
+  own : Conserved (sumsOf h (r .account)) → Sort h r → Conserved (sumsOf (r ∷ h) (r .account))
   own l (as-contribution k) =
       from-move stays (move-contribution h r b k)
       (n-contribution (sums h) (sums (r ∷ h)) (ups h) b l r (posted r) refl (rw k at (here-plain (ap naming k))))
@@ -214,13 +218,13 @@ module _ {h : History} (v : Valid h) (r : Raw) (j : judge h r ≡ 0) where
       from-move (corrects bill (fate h e .standing) (r .amount)) (move-correction h r b i e f bill k c)
       (n-correction (sums h) (sums (r ∷ h)) (ups h) b l r e (fate (r ∷ h) r) (fate h e) bill (rw (k, c) at (here-named (ap naming k) i e f)))
 
-pub conserve : {h : History} → Valid h → (a : ℕ) → Conserved h a
-unfolding total addedUp balance
+pub conserve : {h : History} → Valid h → (a : ℕ) → Conserved (sumsOf h a)
+unfolding total filter addedUp balance
 conserve empty a = refl
 conserve (joins {r} {h} v j) a = go (λ n. conserve v n) (eqb (r .account) a) refl
   where
-    go : ((n : ℕ) → Conserved h n) → (t : Bool) → eqb (r .account) a ≡ t → Conserved (r ∷ h) a
-    go ih true t = subst (λ (n : ℕ). Conserved (r ∷ h) n) (eqb-true (r .account) a t) (own v r j (ih (r .account)) (sorted h r j))
+    go : ((n : ℕ) → Conserved (sumsOf h n)) → (t : Bool) → eqb (r .account) a ≡ t → Conserved (sumsOf (r ∷ h) a)
+    go ih true t = subst (λ (n : ℕ). Conserved (sumsOf (r ∷ h) n)) (eqb-true (r .account) a t) (own v r j (ih (r .account)) (sorted h r j))
     go ih false t =
         let s = still v r j a t (role h r (sorted h r j)) in
         let u = added-still v r j a t in
@@ -228,6 +232,10 @@ conserve (joins {r} {h} v j) a = go (λ n. conserve v n) (eqb (r .account) a) re
         (ih a)
 
 -- EACH CONTRIBUTION
+-- it is divided, and its customers are counted
+abbrev pub Parted : History → Raw → Type 0
+Parted h e = Divided h e × (fate h e .added ≡ customers h e)
+
 -- what is not closed has nothing retained
 still-open : (h : History) (e : Raw) → fate h e .closed ≡ false → fate h e .retained ≡ 0
 unfolding fate
@@ -242,19 +250,19 @@ uncorrectable false q = omega (arith, ap numberOf q)
 
 module _ {h : History} (v : Valid h) (r : Raw) (j : judge h r ≡ 0) where
   -- the contribution that joins
-  divided-new : Divided (r ∷ h) r
+  divided-new : Parted (r ∷ h) r
   divided-new =
-      rw (fate-new v r j, customers-new v (λ (x : Amounts). x .settled) r j, customers-new v (λ (x : Amounts). x .paidOut) r j) (omega arith)
+      rw (fate-new v r j, customers-new v (λ (x : Amounts). x .settled) r j, customers-new v (λ (x : Amounts). x .paidOut) r j, customers-new v (λ (x : Amounts). 1) r j) (omega arith)
 
-  divided-miss : (e : Raw) → names r e ≡ false → Divided h e → Divided (r ∷ h) e
+  divided-miss : (e : Raw) → names r e ≡ false → Parted h e → Parted (r ∷ h) e
   divided-miss e n l =
-      rw (fate-miss r h e n, customers-miss (λ (x : Amounts). x .settled) r h e n, customers-miss (λ (x : Amounts). x .paidOut) r h e n) l
+      rw (fate-miss r h e n, customers-miss (λ (x : Amounts). x .settled) r h e n, customers-miss (λ (x : Amounts). x .paidOut) r h e n, customers-miss (λ (x : Amounts). 1) r h e n) l
 
   n-refunded : (own x arrears paid old held retained : ℕ) → own ≡ paid + old + held + retained → x ≤ held →
       own ≡ (settles x arrears + paid) + (leaves x arrears + old) + (held - x) + retained
   n-refunded own x arrears paid old held retained l q = omega arith
 
-  divided-added : (e : Raw) (i : ℕ) → kindOf (r .kind) ≡ kind.AddedCustomer → find h r ≡ found i e → Divided h e → Divided (r ∷ h) e
+  divided-added : (e : Raw) (i : ℕ) → kindOf (r .kind) ≡ kind.AddedCustomer → find h r ≡ found i e → Parted h e → Parted (r ∷ h) e
   unfolding amounts
   divided-added e i k f l =
       let p = hit v r i e f .aimed in
@@ -264,37 +272,39 @@ module _ {h : History} (v : Valid h) (r : Raw) (j : judge h r ≡ 0) where
         fate-hit r h e (names-points r e (ap naming k) p),
         customers-hit (λ (x : Amounts). x .settled) r h e k p,
         customers-hit (λ (x : Amounts). x .paidOut) r h e k p,
+        customers-hit (λ (x : Amounts). 1) r h e k p,
         move-added h r b i e f k,
         k,
       )
-      (n-refunded (e .amount) x (b .arrears) (toArrears h e) (refundsPaid h e) (fate h e .held) (fate h e .retained) l (omega arith))
+      (n-refunded (e .amount) x (b .arrears) (toArrears h e) (refundsPaid h e) (fate h e .held) (fate h e .retained) (l .0) (omega arith), omega arith)
 
-  divided-expired : (e : Raw) → kindOf (r .kind) ≡ kind.Expiry → names r e ≡ true → fate h e .closed ≡ false → Divided h e → Divided (r ∷ h) e
+  divided-expired : (e : Raw) → kindOf (r .kind) ≡ kind.Expiry → names r e ≡ true → fate h e .closed ≡ false → Parted h e → Parted (r ∷ h) e
   divided-expired e k n o l =
-      rw (fate-hit r h e n, customers-other (λ (x : Amounts). x .settled) r h e (ap (λ (l : Kind). sameOf l kind.AddedCustomer) k), customers-other (λ (x : Amounts). x .paidOut) r h e (ap (λ (l : Kind). sameOf l kind.AddedCustomer) k), k)
+      let o′ = ap (λ (l : Kind). sameOf l kind.AddedCustomer) k in
+      rw (fate-hit r h e n, customers-other (λ (x : Amounts). x .settled) r h e o′, customers-other (λ (x : Amounts). x .paidOut) r h e o′, customers-other (λ (x : Amounts). 1) r h e o′, k)
       (omega (arith, still-open h e o))
 
-  divided-hit : (e : Raw) → In e h → kindOf (e .kind) ≡ kind.Contribution → names r e ≡ true → Divided h e → Sort h r → Divided (r ∷ h) e
+  divided-hit : (e : Raw) → In e h → kindOf (e .kind) ≡ kind.Contribution → names r e ≡ true → Parted h e → Sort h r → Parted (r ∷ h) e
   divided-hit e m c n l (as-contribution k) = absurd (true≢false (sym n ∙ plain r e (ap naming k)))
   divided-hit e m c n l (as-added k i x f q d) =
-      let same : e ≡ x = names-found v r i x (ap naming k) f e m n in
+      let same : e ≡ x = names-found v r i x f e m n in
       divided-added e i k (f ∙ ap (λ y. found i y) (sym same)) l
   divided-hit e m c n l (as-bill k) = absurd (true≢false (sym n ∙ plain r e (ap naming k)))
   divided-hit e m c n l (as-payment k) = absurd (true≢false (sym n ∙ plain r e (ap naming k)))
   divided-hit e m c n l (as-deposit k z a) = absurd (true≢false (sym n ∙ plain r e (ap naming k)))
   divided-hit e m c n l (as-return k) = absurd (true≢false (sym n ∙ plain r e (ap naming k)))
   divided-hit e m c n l (as-expiry k i x f q o) =
-      let same : e ≡ x = names-found v r i x (ap naming k) f e m n in
+      let same : e ≡ x = names-found v r i x f e m n in
       divided-expired e k n (subst (λ y. fate h y .closed ≡ false) (sym same) o) l
   divided-hit e m c n l (as-correction k i x f bill q u) =
-      let same : e ≡ x = names-found v r i x (ap naming k) f e m n in
+      let same : e ≡ x = names-found v r i x f e m n in
       absurd (uncorrectable bill (sym c ∙ subst (λ (y : Raw). kindOf (y .kind) ≡ correctable bill) (sym same) q))
 
-pub divide : {h : History} → Valid h → (e : Raw) → In e h → kindOf (e .kind) ≡ kind.Contribution → Divided h e
+pub divide : {h : History} → Valid h → (e : Raw) → In e h → kindOf (e .kind) ≡ kind.Contribution → Parted h e
 divide (joins {r} {h} v j) e (newest q) c =
-    subst (λ y. Divided (r ∷ h) y) q (divided-new v r j)
+    subst (λ y. Parted (r ∷ h) y) q (divided-new v r j)
 divide (joins {r} {h} v j) e (older t) c = go (divide v e t c) (names r e) refl
   where
-    go : Divided h e → (u : Bool) → names r e ≡ u → Divided (r ∷ h) e
+    go : Parted h e → (u : Bool) → names r e ≡ u → Parted (r ∷ h) e
     go l true n = divided-hit v r j e t c n l (sorted h r j)
     go l false n = divided-miss v r j e n l

@@ -136,6 +136,7 @@ demand3-hosts l e =
     let loads = eq-eqb (loadOf l .refusal) 0 e in
     record {
       lawful = laws .lawful (historyIn l) (w .valid);
+      bounded = laws .bounded (historyIn l) (w .valid);
       checked = rw (e, loaded-faultless l e, w .agrees .counted) refl;
       posted = λ entry output. rw loads (post-same (loadOf l .book) (historyIn l) w entry output);
       carried = λ run results output. rw loads (carry-same (loadOf l .book) (historyIn l) w run results output);

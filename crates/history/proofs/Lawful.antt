@@ -5,9 +5,9 @@ use mathlib.Core.List.{List, [], _∷_}
 use native.Mathlib.Omega.{arith}
 use Rattle.entries.specs.declared.raw.Raw.{Raw}
 use Rattle.history.specs.History.{History, judge, joined, offer, offers}
-use Rattle.history.specs.Laws.{Valid, empty, joins, Lawful, Laws}
+use Rattle.history.specs.Laws.{Valid, empty, joins, Lawful, Bounded, Laws}
 use Rattle.history.proofs.Accept.{fits}
-use Rattle.history.proofs.Names.{in-period, once}
+use Rattle.history.proofs.Names.{refunded, in-period, once}
 use Rattle.history.proofs.Conserve.{conserve, divide}
 use Rattle.history.proofs.Bound.{bounded, added-small}
 
@@ -15,9 +15,16 @@ lawful : (h : History) → Valid h → Lawful h
 lawful h v =
     record {
       conserved = λ a. conserve v a;
-      divided = λ e m c. divide v e m c;
+      divided = λ e m c. divide v e m c .0;
+      counted = λ e m c. divide v e m c .1;
+      contributed = λ c m k. refunded v c m k .0;
       in-period = λ c e m n k p. in-period v c e m n k p;
       once = once v;
+    }
+
+within : (h : History) → Valid h → Bounded h
+within h v =
+    record {
       room = fits v;
       arrears = λ a. omega (arith, fits v, bounded v a .arrears);
       credit = λ a. omega (arith, fits v, bounded v a .credit);
@@ -39,4 +46,4 @@ valid-offers v [] = v
 valid-offers v (r ∷ rs) = valid-offers (valid-offer v r) rs
 
 pub laws : Laws
-laws = record { valid = λ rs. valid-offers empty rs; lawful = lawful }
+laws = record { valid = λ rs. valid-offers empty rs; lawful = lawful; bounded = within }

@@ -15,3 +15,5 @@ pub mod Queries
 pub mod Claim
 pub mod Hosts
 pub mod Trips
+pub mod Witness
+pub mod Cited

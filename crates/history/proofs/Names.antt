@@ -13,7 +13,7 @@ use Rattle.entries.specs.declared.kinds.Kind.{Kind}
 use Rattle.entries.specs.declared.kinds.Kind.the-variants as kind
 use Rattle.entries.proofs.Ranges.{both-true}
 use Rattle.history.specs.History.{period, History, lastSerial, naming, points, names, Sought, missing, found, find, Fate, posted, change, fate, Amounts, amounts, judge, ofCustomers}
-use Rattle.history.specs.Laws.{Valid, empty, joins, In, newest, older, Again, Once}
+use Rattle.history.specs.Laws.{Valid, empty, joins, In, newest, older, Contributed, Again, Once}
 use Rattle.history.proofs.Accept.{accepts, Sort, as-contribution, as-added, as-bill, as-payment, as-deposit, as-return, as-expiry, as-correction, sorted, Role, alone, upon, role}
 
 -- last serials rise
@@ -216,60 +216,66 @@ hits (joins {r = x} {h = g} v j) c i e k f = go (λ q. hits v c i e k q) (points
     go ih true p q = first {x = x} {g = g} (rw (k, p)) (cc) (cc) (misses-find c g (unfound v c x p (accepts g x j .serial-above)))
     go ih false p q = later (not-pointed c x p) (ih q)
 
--- of the entries of a list, c names only the one that it hits
-misses-none : {c : Raw} {g : History} → Misses c g → (x : Raw) → In x g → names c x ≡ false
-misses-none {c} (miss n m) x (newest s) = subst (λ y. names c y ≡ false) s n
-misses-none (miss n m) x (older t) = misses-none m x t
+-- no two entries carry the same node and serial
+in-serial : {h : History} → Valid h → (e : Raw) → In e h → e .serial ≤ lastSerial h (e .node)
+in-serial (joins {r} {h} v j) e (newest q) = subst (λ (y : Raw). y .serial ≤ lastSerial (r ∷ h) (y .node)) q (omega (arith, last-own h r))
+in-serial (joins {r} {h} v j) e (older t) = omega (arith, in-serial v e t, last-up h r (e .node) j)
 
-pub hits-only : {c : Raw} {i : ℕ} {e : Raw} {g : History} → Hits c i e g → (x : Raw) → In x g → names c x ≡ true → x ≡ e
-hits-only (first n s l m) x (newest q) k = sym q ∙ s
-hits-only (first n s l m) x (older t) k = absurd (true≢false (sym k ∙ misses-none m x t))
-hits-only {c} (later n t) x (newest q) k = absurd (true≢false (sym k ∙ subst (λ y. names c y ≡ false) q n))
-hits-only (later n t) x (older u) k = hits-only t x u k
+serial-new : {h : History} → Valid h → (r x y : Raw) → judge h r ≡ 0 → r ≡ x → In y h → x .node ≡ y .node → x .serial ≡ y .serial → ⊥
+serial-new {h} v r x y j q t n s =
+    let above : lastSerial h (x .node) < x .serial = subst (λ (z : Raw). lastSerial h (z .node) < z .serial) q (accepts h r j .serial-above) in
+    let same : lastSerial h (x .node) ≡ lastSerial h (y .node) = ap (λ m. lastSerial h m) n in
+    omega (arith, in-serial v y t)
+
+unique : {h : History} → Valid h → (x y : Raw) → In x h → In y h → x .node ≡ y .node → x .serial ≡ y .serial → x ≡ y
+unique (joins v j) x y (newest p) (newest q) n s = sym p ∙ q
+unique (joins {r} v j) x y (newest p) (older t) n s = absurd (serial-new v r x y j p t n s)
+unique (joins {r} v j) x y (older t) (newest q) n s = absurd (serial-new v r y x j q t (sym n) (sym s))
+unique (joins v j) x y (older t) (older u) n s = unique v x y t u n s
+
+pointed-once : {h : History} → Valid h → (c x e : Raw) → In x h → In e h → points c x ≡ true → points c e ≡ true → x ≡ e
+pointed-once v c x e m n p q =
+    let a = pointed c x p in
+    let b = pointed c e q in
+    unique v x e m n (a .node ∙ sym (b .node)) (a .serial ∙ sym (b .serial))
 
 -- what an accepted entry names, among the entries
-pub names-found : {h : History} → Valid h → (c : Raw) (i : ℕ) (e : Raw) → naming (kindOf (c .kind)) ≡ true → find h c ≡ found i e →
-    (x : Raw) → In x h → names c x ≡ true → x ≡ e
-names-found v c i e k f x m n = hits-only (hits v c i e k f) x m n
+pub names-found : {h : History} → Valid h → (c : Raw) (i : ℕ) (e : Raw) → find h c ≡ found i e → (x : Raw) → In x h → names c x ≡ true → x ≡ e
+unfolding names
+names-found v c i e f x m n = let w = hit v c i e f in pointed-once v c x e m (w .member) (both-true (naming (kindOf (c .kind))) (points c x) n .1) (w .aimed)
 
 pub names-points : (c x : Raw) → naming (kindOf (c .kind)) ≡ true → points c x ≡ true → names c x ≡ true
 unfolding names
 names-points c x k p = rw (k, p)
 
--- no entry of a history names one whose serial is newer than all of them
-pub in-names-old : {h : History} → Valid h → (c : Raw) → In c h → (r : Raw) → lastSerial h (r .node) < r .serial → names c r ≡ false
-in-names-old (joins {r = x} {h} v j) c (newest q) r n =
-    subst (λ y. names y r ≡ false) q (named-old v x r (role h x (sorted h x j)) (omega (arith, last-up h x (r .node) j)))
-in-names-old (joins {r = x} {h} v j) c (older t) r n = in-names-old v c t r (omega (arith, last-up h x (r .node) j))
+-- LAW: each added customer has its contribution, and a day in its period
+abbrev pub Refunded : History → Raw → Type 0
+Refunded h c = (w : Contributed h c) × (c .day < w .entry .day + period)
 
--- LAW: no added customer is dated 1,826 days or more after its contribution
-added-names : (c x : Raw) → kindOf (c .kind) ≡ kind.AddedCustomer → points c x ≡ true → names c x ≡ true
-added-names c x k p = names-points c x (ap naming k) p
+refunded-sort : {h : History} → Valid h → (c : Raw) → Sort h c → kindOf (c .kind) ≡ kind.AddedCustomer → Refunded (c ∷ h) c
+refunded-sort v c (as-contribution q) k = let z : _≡_ {A = ℕ} 0 1 = cc in absurd (omega arith)
+refunded-sort v c (as-added q i x f l d) k =
+    let w = hit v c i x f in (record { entry = x; member = older (w .member); contribution = l; aimed = w .aimed }, d)
+refunded-sort v c (as-bill q) k = let z : _≡_ {A = ℕ} 0 1 = cc in absurd (omega arith)
+refunded-sort v c (as-payment q) k = let z : _≡_ {A = ℕ} 0 1 = cc in absurd (omega arith)
+refunded-sort v c (as-deposit q n a) k = let z : _≡_ {A = ℕ} 0 1 = cc in absurd (omega arith)
+refunded-sort v c (as-return q) k = let z : _≡_ {A = ℕ} 0 1 = cc in absurd (omega arith)
+refunded-sort v c (as-expiry q i x f l o) k = let z : _≡_ {A = ℕ} 0 1 = cc in absurd (omega arith)
+refunded-sort v c (as-correction q i x f b l u) k = let z : _≡_ {A = ℕ} 0 1 = cc in absurd (omega arith)
 
-sort-period : {h : History} → Valid h → (c : Raw) → Sort h c → kindOf (c .kind) ≡ kind.AddedCustomer → (e : Raw) → In e h → points c e ≡ true → c .day < e .day + period
-sort-period v c (as-contribution q) k e m p = let z : _≡_ {A = ℕ} 0 1 = cc in absurd (omega arith)
-sort-period v c (as-added q i x f l d) k e m p =
-    let same : e ≡ x = names-found v c i x (ap naming q) f e m (added-names c e k p) in
-    subst (λ (y : Raw). c .day < y .day + period) (sym same) d
-sort-period v c (as-bill q) k e m p = let z : _≡_ {A = ℕ} 0 1 = cc in absurd (omega arith)
-sort-period v c (as-payment q) k e m p = let z : _≡_ {A = ℕ} 0 1 = cc in absurd (omega arith)
-sort-period v c (as-deposit q n a) k e m p = let z : _≡_ {A = ℕ} 0 1 = cc in absurd (omega arith)
-sort-period v c (as-return q) k e m p = let z : _≡_ {A = ℕ} 0 1 = cc in absurd (omega arith)
-sort-period v c (as-expiry q i x f l o) k e m p = let z : _≡_ {A = ℕ} 0 1 = cc in absurd (omega arith)
-sort-period v c (as-correction q i x f b l u) k e m p = let z : _≡_ {A = ℕ} 0 1 = cc in absurd (omega arith)
+pub refunded : {h : History} → Valid h → (c : Raw) → In c h → kindOf (c .kind) ≡ kind.AddedCustomer → Refunded h c
+refunded (joins {r} {h} v j) c (newest q) k =
+    subst (λ y. kindOf (y .kind) ≡ kind.AddedCustomer → Refunded (r ∷ h) y) q (refunded-sort v r (sorted h r j)) k
+refunded (joins v j) c (older t) k =
+    let w = refunded v c t k in
+    let x = w .0 in
+    (record { entry = x .entry; member = older (x .member); contribution = x .contribution; aimed = x .aimed }, w .1)
 
 pub in-period : {h : History} → Valid h → (c e : Raw) → In c h → In e h → kindOf (c .kind) ≡ kind.AddedCustomer → points c e ≡ true → c .day < e .day + period
-in-period (joins {r} {h} v j) c e (newest q) (newest s) k p =
-    let same : c ≡ e = sym q ∙ s in
-    let no-self : names c e ≡ false = subst (λ y. names y e ≡ false) q (subst (λ y. names r y ≡ false) s (not-itself v r j)) in
-    absurd (true≢false (sym (added-names c e k p) ∙ no-self))
-in-period (joins {r} {h} v j) c e (newest q) (older t) k p =
-    subst (λ (y : Raw). y .day < e .day + period) q
-    (sort-period v r (sorted h r j) (subst (λ (y : Raw). kindOf (y .kind) ≡ kind.AddedCustomer) (sym q) k) e t (subst (λ y. points y e ≡ true) (sym q) p))
-in-period (joins {r} {h} v j) c e (older t) (newest s) k p =
-    let fresh : names c e ≡ false = subst (λ y. names c y ≡ false) s (in-names-old v c t r (accepts h r j .serial-above)) in
-    absurd (true≢false (sym (added-names c e k p) ∙ fresh))
-in-period (joins v j) c e (older t) (older s) k p = in-period v c e t s k p
+in-period v c e m n k p =
+    let w = refunded v c m k in
+    let x = w .0 in
+    subst (λ (y : Raw). c .day < y .day + period) (pointed-once v c (x .entry) e (x .member) n (x .aimed) p) (w .1)
 
 -- LAW: no two corrections on one account name the same entry
 -- an entry that a correction of the history names is corrected

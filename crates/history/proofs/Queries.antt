@@ -1,10 +1,10 @@
 -- A statement and a contribution query give what the history has.
 use mathlib.Core.Path.{_≡_, refl, ap}
-use Prim.Native.Nat.{ℕ, zero, suc, _+_, _*_, min, _≤_}
+use Prim.Native.Nat.{ℕ, zero, suc, _*_, min, _≤_}
 use native.Mathlib.Omega.{arith}
 use native.Mathlib.Nat.{min-eq-left}
 use mathlib.Core.Bool.{Bool, true, false, cond, not, _&&_}
-use mathlib.Core.List.{[], _∷_}
+use mathlib.Core.List.{List, [], _∷_}
 use lib.ListN.{length, take}
 use lib.Dec.{eqb}
 use Rattle.measures.specs.Cents.{most}
@@ -29,12 +29,13 @@ use Rattle.queries.specs.Statement.{statementReplyOf, givenOf, statementOf}
 use Rattle.queries.specs.Statement as statements
 use Rattle.queries.specs.Contribution.{contributionReplyOf, figuresOf, contributionQueryOf}
 use Rattle.queries.specs.Contribution as contributions
-use Rattle.history.specs.History.{History, accounts, points, names, Sought, missing, found, find, Fate, fate, entryIn, asking, total, standingAmount, heldOf, toArrears, refundsPaid}
+use Rattle.history.specs.History.{History, accounts, points, names, Sought, missing, found, find, Fate, fate, entryIn, asking, filter, entriesOf, total, standingAmount, heldOf, toArrears, refundsPaid}
 use Rattle.history.specs.Laws.{Valid, empty, joins}
 use Rattle.history.specs.Agreement.{keptData, dataIn, keptEntry, keptChain, Kept}
-use Rattle.history.specs.Queries.{entriesOf, statementBy, statementIn, contributionBy, contributionIn}
+use Rattle.history.specs.Queries.{statementBy, statementIn, contributionBy, contributionIn}
 use Rattle.history.proofs.Accept.{accepts, fits, InRange, correctable}
 use Rattle.history.proofs.Names.{fate-cases}
+use Rattle.history.proofs.Conserve.{total-filter}
 use Rattle.history.proofs.Bound.{large, standing-small}
 use Rattle.history.proofs.Agree.{agreement}
 
@@ -51,61 +52,51 @@ some-small true x l = l
 some-small false x l = omega arith
 
 -- sums of small numbers are small
-module _ (f : Kind → Raw → Fate → ℕ) (all : History) (a : ℕ) (small : (e : Raw) → InRange e (kindOf (e .kind)) → f (kindOf (e .kind)) e (fate all e) ≤ large) where
-  total-small : {h : History} → Valid h → total f all h a ≤ large * length h
+module _ (f : Kind → Raw → Fate → ℕ) (all : History) where
+  total-small : (a : ℕ) → ((e : Raw) → InRange e (kindOf (e .kind)) → f (kindOf (e .kind)) e (fate all e) ≤ large) → {h : History} → Valid h →
+      total f all (entriesOf h a) ≤ large * length h
+  unfolding total filter
+  total-small a small empty = omega arith
+  total-small a small (joins {r} {h} v j) =
+      rw total-filter
+      (omega (arith, total-small a small v, some-small (eqb (r .account) a) (f (kindOf (r .kind)) r (fate all r)) (small r (accepts h r j .ranges))))
+
+  taken-small : (n : ℕ) (es : History) → total f all (take n es) ≤ total f all es
   unfolding total
-  total-small empty = omega arith
-  total-small (joins {r} {h} v j) =
-      omega (arith, total-small v, some-small (eqb (r .account) a) (f (kindOf (r .kind)) r (fate all r)) (small r (accepts h r j .ranges)))
+  taken-small zero es = omega arith
+  taken-small (suc n) [] = omega arith
+  taken-small (suc n) (e ∷ es) = omega (arith, taken-small n es)
 
-  taken-small : {h : History} → Valid h → (n : ℕ) → total f all (take n (entriesOf h a)) a ≤ large * length h
-  unfolding total entriesOf
-  taken-small empty zero = omega arith
-  taken-small empty (suc n) = omega arith
-  taken-small (joins {r} {h} v j) n = go n (λ m. taken-small v m) (eqb (r .account) a)
-    where
-      one : cond (eqb (r .account) a) (f (kindOf (r .kind)) r (fate all r)) 0 ≤ large
-      one = some-small (eqb (r .account) a) (f (kindOf (r .kind)) r (fate all r)) (small r (accepts h r j .ranges))
+-- a part of a chain, and its entries
+pub data Reads (all : History) : List Entry → History → Type 0 where
+  none : Reads all [] []
+  link : (h : History) {e : Raw} {es : List Entry} {rs : History} → Reads all es rs → Reads all (keptEntry all h e ∷ es) (e ∷ rs)
 
-      go : (n : ℕ) → ((m : ℕ) → total f all (take m (entriesOf h a)) a ≤ large * length h) → (t : Bool) →
-          total f all (take n (cond t (r ∷ entriesOf h a) (entriesOf h a))) a ≤ large * suc (length h)
-      go zero ih true = omega arith
-      go (suc m) ih true = omega (arith, ih m, one)
-      go n ih false = omega (arith, ih n)
+pub chain-reads : (all h : History) (a : ℕ) → Reads all (keptChain all h a) (entriesOf h a)
+unfolding keptChain filter
+chain-reads all [] a = none
+chain-reads all (r ∷ h) a = go (chain-reads all h a) (eqb (r .account) a)
+  where
+    go : Reads all (keptChain all h a) (entriesOf h a) → (t : Bool) →
+        Reads all (cond t (keptEntry all h r ∷ keptChain all h a) (keptChain all h a)) (cond t (r ∷ entriesOf h a) (entriesOf h a))
+    go ih true = link h ih
+    go ih false = ih
+
+reads-taken : {all : History} {es : List Entry} {rs : History} (n : ℕ) → Reads all es rs → Reads all (take n es) (take n rs)
+reads-taken zero w = none
+reads-taken (suc n) none = none
+reads-taken (suc n) (link h w) = link h (reads-taken n w)
+
+reads-length : {all : History} {es : List Entry} {rs : History} → Reads all es rs → length es ≡ length rs
+reads-length none = refl
+reads-length (link h w) = ap suc (reads-length w)
 
 -- sums along the chain are the history's
-module _ (g : Entry → ℕ) (f : Kind → Raw → Fate → ℕ) (all : History) (a : ℕ) (same : (h : History) (e : Raw) → g (keptEntry all h e) ≡ f (kindOf (e .kind)) e (fate all e)) where
-  pub chain-total : (h : History) → totalOf g (keptChain all h a) ≡ total f all h a
-  unfolding totalOf keptChain total
-  chain-total [] = refl
-  chain-total (r ∷ h) = go (chain-total h) (eqb (r .account) a)
-    where
-      go : totalOf g (keptChain all h a) ≡ total f all h a → (t : Bool) →
-          totalOf g (cond t (keptEntry all h r ∷ keptChain all h a) (keptChain all h a)) ≡ cond t (f (kindOf (r .kind)) r (fate all r)) 0 + total f all h a
-      go ih true = omega (arith, ih, same h r)
-      go ih false = omega (arith, ih)
-
-  chain-taken : (h : History) (n : ℕ) → totalOf g (take n (keptChain all h a)) ≡ total f all (take n (entriesOf h a)) a
-  unfolding totalOf keptChain total entriesOf
-  chain-taken [] zero = refl
-  chain-taken [] (suc n) = refl
-  chain-taken (r ∷ h) n = go n (λ m. chain-taken h m) (eqb (r .account) a) refl
-    where
-      go : (n : ℕ) → ((m : ℕ) → totalOf g (take m (keptChain all h a)) ≡ total f all (take m (entriesOf h a)) a) → (t : Bool) → eqb (r .account) a ≡ t →
-          totalOf g (take n (cond t (keptEntry all h r ∷ keptChain all h a) (keptChain all h a))) ≡ total f all (take n (cond t (r ∷ entriesOf h a) (entriesOf h a))) a
-      go zero ih true e = refl
-      go (suc m) ih true e = rw e (omega (arith, ih m, same h r))
-      go n ih false e = ih n
-
-chain-length : (all h : History) (a : ℕ) → length (keptChain all h a) ≡ length (entriesOf h a)
-unfolding keptChain entriesOf
-chain-length all [] a = refl
-chain-length all (r ∷ h) a = go (chain-length all h a) (eqb (r .account) a)
-  where
-    go : length (keptChain all h a) ≡ length (entriesOf h a) → (t : Bool) →
-        length (cond t (keptEntry all h r ∷ keptChain all h a) (keptChain all h a)) ≡ length (cond t (r ∷ entriesOf h a) (entriesOf h a))
-    go ih true = ap suc ih
-    go ih false = ih
+pub reads-total : (g : Entry → ℕ) (f : Kind → Raw → Fate → ℕ) (all : History) → ((h : History) (e : Raw) → g (keptEntry all h e) ≡ f (kindOf (e .kind)) e (fate all e)) →
+    {es : List Entry} {rs : History} → Reads all es rs → totalOf g es ≡ total f all rs
+unfolding totalOf total
+reads-total g f all same none = refl
+reads-total g f all same (link h {e} w) = omega (arith, reads-total g f all same w, same h e)
 
 -- what is read of an entry: what is held, and the standing amount of a bill and of a payment
 reads : (k : Kind) (e : Raw) (f : Fate) (s p : ℕ) →
@@ -137,22 +128,22 @@ module _ (all : History) where
 
 -- STATEMENT
 module _ {b : Book} {h : History} (w : Kept b h) where
-  held-fits : (a : ℕ) → min (totalOf chains.heldOf (keptChain h h a)) most ≡ total heldOf h h a
+  held-fits : (a : ℕ) → min (totalOf chains.heldOf (keptChain h h a)) most ≡ total heldOf h (entriesOf h a)
   held-fits a =
-      rw (chain-total chains.heldOf heldOf h a (held-read h) h)
+      rw (reads-total chains.heldOf heldOf h (held-read h) (chain-reads h h a))
       (min-eq-left (omega (arith, fits (w .valid), total-small heldOf h a (λ e s. some-small (sameOf (kindOf (e .kind)) kind.Contribution) (fate h e .held) (omega (arith, held-small h e, s .amount))) (w .valid))))
 
   standing-fits : (bill : Bool) (a n : ℕ) →
-      let l = correctable bill in min (totalOf (standingOf l) (take n (keptChain h h a))) most ≡ total (standingAmount l) h (take n (entriesOf h a)) a
+      let l = correctable bill in min (totalOf (standingOf l) (take n (keptChain h h a))) most ≡ total (standingAmount l) h (take n (entriesOf h a))
   standing-fits bill a n =
       let l = correctable bill in
-      rw (chain-taken (standingOf l) (standingAmount l) h a (standing-read h bill) h n)
-      (min-eq-left (omega (arith, fits (w .valid), taken-small (standingAmount l) h a (λ e s. some-small (sameOf (kindOf (e .kind)) l) (fate h e .standing) (standing-small (w .valid) e s)) (w .valid) n)))
+      rw (reads-total (standingOf l) (standingAmount l) h (standing-read h bill) (reads-taken n (chain-reads h h a)))
+      (min-eq-left (omega (arith, fits (w .valid), taken-small (standingAmount l) h n (entriesOf h a), total-small (standingAmount l) h a (λ e s. some-small (sameOf (kindOf (e .kind)) l) (fate h e .standing) (standing-small (w .valid) e s)) (w .valid))))
 
   given-same : (a n : ℕ) → 1 ≤ a → a ≤ accounts → givenOf (accountAt b a) (chainAt b a) n ≡ statementBy 0 h a n
   unfolding givenOf
   given-same a n l m =
-      rw (agreement .chain b h w a l m, w .agrees .account a l m, held-fits a, standing-fits true a n, standing-fits false a n, chain-length h h a) refl
+      rw (agreement .chain b h w a l m, w .agrees .account a l m, held-fits a, standing-fits true a n, standing-fits false a n, reads-length (chain-reads h h a)) refl
 
   pub statement-same : (a n : ℕ) → statementOf b a n ≡ statementIn h a n
   unfolding statementOf statementIn statements.decidedOf ruleOf statementReplyOf

@@ -10,8 +10,8 @@ use Rattle.queries.specs.Chain as chains
 use Rattle.queries.specs.Statement.{statementOf}
 use Rattle.queries.specs.Contribution.{contributionQueryOf}
 use Rattle.image.specs.Saves.{saveOf}
-use Rattle.history.specs.History.{accounts, along, balance, total, heldOf}
-use Rattle.history.specs.Laws.{Lawful}
+use Rattle.history.specs.History.{accounts, along, balance, entriesOf, total, heldOf}
+use Rattle.history.specs.Laws.{Lawful, Bounded}
 use Rattle.history.specs.Agreement.{Kept}
 use Rattle.carry.specs.Carry.{carryRefusalOf, carryBookOf, carryResultsOf}
 use Rattle.history.specs.Calls.{Call, posting, carryOver, statement, contribution, save, Answer, posted, carried, stated, given, saved, answersIn, historyOf}
@@ -53,11 +53,13 @@ pub record Right (cs : List Call) : Type 0 where
   -- its amounts held: the deposit
   pub deposit : (a : ℕ) → 1 ≤ a → a ≤ accounts → accountAt (bookOf cs) a .deposit .0 ≡ balance (historyOf cs) a .deposit
   -- and what is held of the account's contributions
-  pub held : (a : ℕ) → 1 ≤ a → a ≤ accounts → totalOf chains.heldOf (chainAt (bookOf cs) a) ≡ total heldOf (historyOf cs) (historyOf cs) a
+  pub held : (a : ℕ) → 1 ≤ a → a ≤ accounts → totalOf chains.heldOf (chainAt (bookOf cs) a) ≡ total heldOf (historyOf cs) (entriesOf (historyOf cs) a)
   -- it keeps the history's entries, chains and last serials too
   pub kept : Kept (bookOf cs) (historyOf cs)
   -- the history's sums, and no two corrections on one account that name the same entry
   pub lawful : Lawful (historyOf cs)
+  -- bounds within which no sum saturates
+  pub bounded : Bounded (historyOf cs)
 
 -- proofs/Claim.antt shows it
 abbrev pub Demand3 : Type 0

@@ -273,10 +273,21 @@ carryOffers h rs results = cond (tooShort rs results) h (offers h rs)
 abbrev pub carryVerdicts : History → List Raw → List ℕ → List ℕ
 carryVerdicts h rs results = cond (tooShort rs results) results (verdicts h rs ++ drop (length rs) results)
 
--- a sum over an account's entries, of what is read off each and its fate in the whole history, `all`
-unfoldable pub total : (Kind → Raw → Fate → ℕ) → History → History → ℕ → ℕ
-total f all [] account = 0
-total f all (r ∷ h) account = cond (eqb (r .account) account) (f (kindOf (r .kind)) r (fate all r)) 0 + total f all h account
+-- the entries of a list that pass a test, and an account's entries, newest first
+unfoldable pub filter : (Raw → Bool) → History → History
+filter test [] = []
+filter test (r ∷ h) = cond (test r) (r ∷ filter test h) (filter test h)
+
+abbrev pub onAccount : ℕ → Raw → Bool
+onAccount account r = eqb (r .account) account
+
+abbrev pub entriesOf : History → ℕ → History
+entriesOf h account = filter (onAccount account) h
+
+-- a sum over entries, of what is read off each and its fate in the whole history, `all`
+unfoldable pub total : (Kind → Raw → Fate → ℕ) → History → History → ℕ
+total f all [] = 0
+total f all (r ∷ es) = f (kindOf (r .kind)) r (fate all r) + total f all es
 
 -- contributions and deposits are summed by their amounts, bills and payments at their standing amounts, contributions by what is held
 abbrev pub amountOf : Kind → Kind → Raw → Fate → ℕ
@@ -303,3 +314,7 @@ toArrears h e = ofCustomers (λ (x : Amounts). x .settled) h e
 
 abbrev pub refundsPaid : History → Raw → ℕ
 refundsPaid h e = ofCustomers (λ (x : Amounts). x .paidOut) h e
+
+-- the customers added to e are the added customers that point at it, counted
+abbrev pub customers : History → Raw → ℕ
+customers h e = ofCustomers (λ (x : Amounts). 1) h e

@@ -16,7 +16,7 @@ use Rattle.contribution_book.specs.Reads.{statementGiven, statementImage, contr
 use Rattle.contribution_book.specs.declared.postings.PostGiven.{PostGiven}
 use Rattle.contribution_book.specs.declared.carries.CarryGiven.{CarryGiven}
 use Rattle.history.specs.History.{History, judge, offer, offers, repliedOf, tooShort, carryVerdicts}
-use Rattle.history.specs.Laws.{Lawful}
+use Rattle.history.specs.Laws.{Lawful, Bounded}
 use Rattle.history.specs.Queries.{statementIn, contributionIn}
 
 -- the history of an image: its records, offered in turn
@@ -59,6 +59,8 @@ resultsIn h run results output =
 pub record Hosted (l : List ℕ) : Type 0 where
   -- the history's sums, and no two corrections on one account that name the same entry
   pub lawful : Lawful (historyIn l)
+  -- bounds within which no sum saturates
+  pub bounded : Bounded (historyIn l)
   -- what the exported calls give is the history's
   pub checked : checkedOf (loadOf l) ≡ record { refusal = 0; «record» = 0; entries = length (historyIn l) }
   pub posted : (entry output : List ℕ) → postImage (loadOf l) entry output .given ≡ postIn (historyIn l) entry output

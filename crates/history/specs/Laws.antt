@@ -8,7 +8,7 @@ use Rattle.entries.specs.Kinds.{kindOf}
 use Rattle.entries.specs.declared.raw.Raw.{Raw}
 use Rattle.entries.specs.declared.kinds.Kind.{Kind}
 use Rattle.entries.specs.declared.kinds.Kind.the-variants as kind
-use Rattle.history.specs.History.{History, Fate, Amounts, entries, period, points, fate, balance, judge, offers, total, amountOf, standingAmount, heldOf, addedUp, toArrears, refundsPaid}
+use Rattle.history.specs.History.{History, Fate, Amounts, entries, period, points, fate, balance, judge, offers, entriesOf, total, amountOf, standingAmount, heldOf, addedUp, toArrears, refundsPaid, customers}
 
 -- the histories that offers give: no refusal stopped any entry, read against those before it
 pub data Valid : History → Type 0 where
@@ -20,15 +20,45 @@ pub data In (e : Raw) : History → Type 0 where
   newest : {r : Raw} {h : History} → r ≡ e → In e (r ∷ h)
   older : {r : Raw} {h : History} → In e h → In e (r ∷ h)
 
--- An account's sums and amounts: contributions, payments, deposits, interest and arrears together are
--- bills, paid out, retained, contributions held, deposit held and credit together.
-abbrev pub Conserved : History → ℕ → Type 0
-Conserved h a =
+-- An account's sums over its entries and posting by posting, and its amounts as the last entry leaves them.
+pub record Sums : Type 0 where
+  pub contributions : ℕ
+  pub payments : ℕ
+  pub deposits : ℕ
+  pub interest : ℕ
+  pub arrears : ℕ
+  pub bills : ℕ
+  pub paidOut : ℕ
+  pub retained : ℕ
+  pub held : ℕ
+  pub deposit : ℕ
+  pub credit : ℕ
+
+abbrev pub sumsOf : History → ℕ → Sums
+sumsOf h a =
     let b = balance h a in
-    let sum : (Kind → Raw → Fate → ℕ) → ℕ = λ f. total f h h a in
+    let sum : (Kind → Raw → Fate → ℕ) → ℕ = λ f. total f h (entriesOf h a) in
     let added : (Amounts → ℕ) → ℕ = λ f. addedUp f h a in
-    sum (amountOf kind.Contribution) + sum (standingAmount kind.Payment) + sum (amountOf kind.Deposit) + added (λ x. x .interest) + b .arrears
-    ≡ sum (standingAmount kind.Bill) + added (λ x. x .paidOut) + added (λ x. x .retained) + sum heldOf + b .deposit + b .credit
+    record {
+      contributions = sum (amountOf kind.Contribution);
+      payments = sum (standingAmount kind.Payment);
+      deposits = sum (amountOf kind.Deposit);
+      interest = added (λ x. x .interest);
+      arrears = b .arrears;
+      bills = sum (standingAmount kind.Bill);
+      paidOut = added (λ x. x .paidOut);
+      retained = added (λ x. x .retained);
+      held = sum heldOf;
+      deposit = b .deposit;
+      credit = b .credit;
+    }
+
+-- Contributions, payments, deposits, interest and arrears together are bills, paid out, retained, contributions held, deposit held
+-- and credit together.
+abbrev pub Conserved : Sums → Type 0
+Conserved s =
+    s .contributions + s .payments + s .deposits + s .interest + s .arrears
+    ≡ s .bills + s .paidOut + s .retained + s .held + s .deposit + s .credit
 
 -- A contribution is refunds to arrears, refunds paid out, what is held and what is retained together.
 abbrev pub Divided : History → Raw → Type 0
@@ -47,29 +77,43 @@ abbrev pub Once : History → Type 0
 Once [] = Unit {0}
 Once (c ∷ h) = ((d : Raw) → In d h → Again c d → ⊥) × Once h
 
+-- the contribution of an added customer c
+pub record Contributed (h : History) (c : Raw) : Type 0 where
+  pub entry : Raw
+  pub member : In entry h
+  pub contribution : kindOf (entry .kind) ≡ kind.Contribution
+  pub aimed : points c entry ≡ true
+
+-- the demand's claims
+pub record Lawful (h : History) : Type 0 where
+  -- each account's sums and amounts
+  pub conserved : (a : ℕ) → Conserved (sumsOf h a)
+  -- each contribution's refunds to arrears and paid out, what is held, and its expiry's retained
+  pub divided : (e : Raw) → In e h → kindOf (e .kind) ≡ kind.Contribution → Divided h e
+  -- k counts the added customers of a contribution, all of them
+  pub counted : (e : Raw) → In e h → kindOf (e .kind) ≡ kind.Contribution → fate h e .added ≡ customers h e
+  -- refunds are the added customers, with their days: each has its contribution, and none is 1,826 days or more after it
+  pub contributed : (c : Raw) → In c h → kindOf (c .kind) ≡ kind.AddedCustomer → Contributed h c
+  pub in-period : (c e : Raw) → In c h → In e h → kindOf (c .kind) ≡ kind.AddedCustomer → points c e ≡ true → c .day < e .day + period
+  -- no two corrections on one account name the same entry
+  pub once : Once h
+
 -- a bound on an account's amounts: 1,024 entries, none of which moves more than 10^12 cents
 abbrev pub amountBound : ℕ
 amountBound = 1024000000000000
 
-pub record Lawful (h : History) : Type 0 where
-  -- an account's sums over the entries and posting by posting, and its amounts as the last entry leaves them
-  pub conserved : (a : ℕ) → Conserved h a
-  -- each contribution's refunds to arrears and paid out, what is held, and its expiry's retained
-  pub divided : (e : Raw) → In e h → kindOf (e .kind) ≡ kind.Contribution → Divided h e
-  -- refunds are the added customers, with their days: none is 1,826 days or more after its contribution
-  pub in-period : (c e : Raw) → In c h → In e h → kindOf (c .kind) ≡ kind.AddedCustomer → points c e ≡ true → c .day < e .day + period
-  -- no two corrections on one account name the same entry
-  pub once : Once h
-  -- The book's amounts, statements and queries equal plain sums (Claim, `kept` and `answered`), so no sum in a book so reached
-  -- saturates. Its limits are 1,024 entries, 2^64 - 1 cents and 65,535 customers added to an entry; these are the bounds.
+-- The book's amounts, statements and queries equal plain sums (Claim, `kept` and `answered`), so no sum in a book so reached
+-- saturates. Its limits are 1,024 entries, 2^64 - 1 cents and 65,535 customers added to an entry; these are the bounds.
+pub record Bounded (h : History) : Type 0 where
   pub room : length h ≤ entries
   pub arrears : (a : ℕ) → balance h a .arrears ≤ amountBound
   pub credit : (a : ℕ) → balance h a .credit ≤ amountBound
   pub deposit : (a : ℕ) → balance h a .deposit ≤ amountBound
   pub added : (e : Raw) → fate h e .added ≤ entries
 
--- proofs/Lawful.antt shows both
+-- proofs/Lawful.antt shows them
 pub record Laws : Type 0 where
   -- offers give such a history, whatever is offered
   pub valid : (rs : List Raw) → Valid (offers [] rs)
   pub lawful : (h : History) → Valid h → Lawful h
+  pub bounded : (h : History) → Valid h → Bounded h

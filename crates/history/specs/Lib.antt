@@ -7,3 +7,4 @@ pub mod Calls
 pub mod Claim
 pub mod Hosts
 pub mod Trips
+pub mod Witness

@@ -1,21 +1,16 @@
 -- What a statement and a contribution query give, as the history has it. Nothing here reads a book.
 use Prim.Native.Nat.{ℕ, zero, suc, min}
-use mathlib.Core.Bool.{Bool, false, cond, not}
+use mathlib.Core.Bool.{Bool, false, not}
 use mathlib.Core.List.{[], _∷_}
 use lib.ListN.{length, take}
-use lib.Dec.{eqb, leb}
+use lib.Dec.{leb}
 use Rattle.entries.specs.Kinds.{kindOf, sameOf}
 use Rattle.entries.specs.Ranges.{between}
 use Rattle.entries.specs.declared.raw.Raw.{Raw}
 use Rattle.entries.specs.declared.kinds.Kind.the-variants as kind
 use Rattle.queries.specs.declared.statements.StatementReply.{StatementReply}
 use Rattle.queries.specs.declared.contributions.ContributionReply.{ContributionReply}
-use Rattle.history.specs.History.{History, accounts, asking, find, fate, entryIn, balance, _⇒_, firstOf, total, standingAmount, heldOf, toArrears, refundsPaid}
-
--- an account's entries, newest first
-unfoldable pub entriesOf : History → ℕ → History
-entriesOf [] account = []
-entriesOf (r ∷ h) account = cond (eqb (r .account) account) (r ∷ entriesOf h account) (entriesOf h account)
+use Rattle.history.specs.History.{History, accounts, asking, find, fate, entryIn, balance, _⇒_, firstOf, entriesOf, total, standingAmount, heldOf, toArrears, refundsPaid}
 
 abbrev pub statementReply : ℕ → ℕ → ℕ → ℕ → ℕ → ℕ → ℕ → ℕ → Bool → StatementReply
 statementReply n arrears credit deposit held links bills payments complete =
@@ -26,9 +21,9 @@ abbrev pub statementBy : ℕ → History → ℕ → ℕ → StatementReply
 statementBy zero h account allowance =
     let b = balance h account in
     let es = entriesOf h account in
-    let bills = total (standingAmount kind.Bill) h (take allowance es) account in
-    let payments = total (standingAmount kind.Payment) h (take allowance es) account in
-    statementReply 0 (b .arrears) (b .credit) (b .deposit) (total heldOf h h account) (min allowance (length es)) bills payments (leb (length es) allowance)
+    let bills = total (standingAmount kind.Bill) h (take allowance es) in
+    let payments = total (standingAmount kind.Payment) h (take allowance es) in
+    statementReply 0 (b .arrears) (b .credit) (b .deposit) (total heldOf h es) (min allowance (length es)) bills payments (leb (length es) allowance)
 statementBy (suc n) h account allowance = statementReply (suc n) 0 0 0 0 0 0 0 false
 
 unfoldable pub statementIn : History → ℕ → ℕ → StatementReply

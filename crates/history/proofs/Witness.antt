@@ -1,0 +1,12 @@
+-- Document 01's figures as one list of calls, by computation.
+use mathlib.Core.Path.{refl}
+use Rattle.entries.specs.Kinds.{kindOf}
+use Rattle.entries.specs.Ranges.{limitsOf, between, namedFits, bFits, inRangeOf}
+use Rattle.history.specs.History.{lastSerial, points, names, find, named, fate, moveBy, balance, amounts, judge, offer, repliedOf, filter, total, addedUp, ofCustomers}
+use Rattle.history.specs.Queries.{statementIn, contributionIn}
+use Rattle.history.specs.Calls.{callOffers, answerIn}
+use Rattle.history.specs.Witness.{Witness}
+
+pub witnessed : Witness
+unfolding kindOf limitsOf between namedFits bFits inRangeOf lastSerial points names find named fate moveBy balance amounts judge offer repliedOf filter total addedUp ofCustomers statementIn contributionIn callOffers answerIn
+witnessed = record { answered = refl; accounts = refl }
