@@ -7,7 +7,7 @@ use mathlib.Core.List.{List, [], _∷_}
 use lib.ListN.{length}
 use lib.Dec.{eqb, leb, ltb}
 use borrow.Author.Tests.{ltb-false, leb-true, leb-false, eqb-true, not-false}
-use Rattle.entries.specs.Kinds.{kindOf, sameOf}
+use Rattle.entries.specs.Kinds.{numberOf, kindOf, sameOf}
 use Rattle.entries.specs.Ranges.{amountMost, limitsOf, bFits, inRangeOf}
 use Rattle.entries.specs.declared.raw.Raw.{Raw}
 use Rattle.entries.specs.declared.kinds.Kind.{Kind}
@@ -16,9 +16,13 @@ use Rattle.entries.proofs.Ranges.{inside, ranged}
 use Rattle.history.specs.History.{accounts, entries, period, History, lastSerial, naming, suits, Sought, missing, found, find, named, Fate, fate, entryIn, fateIn, Balance, balance, Row, firstOf, refusals, judge}
 use Rattle.history.specs.Laws.{Valid, empty, joins}
 
-or-left : (a b : Bool) → (a || b) ≡ false → a ≡ false
+pub or-left : (a b : Bool) → (a || b) ≡ false → a ≡ false
 or-left true b e = e
 or-left false b e = refl
+
+pub or-right : (a b : Bool) → (a || b) ≡ false → b ≡ false
+or-right true b e = absurd (true≢false e)
+or-right false b e = e
 
 -- a table of rules that refuses nothing: no rule is broken
 abbrev pub Silent : List Row → Type 0
@@ -163,27 +167,31 @@ pub named-none : (h : History) (r : Raw) → naming (kindOf (r .kind)) ≡ false
 unfolding named
 named-none h r e = rw e
 
+kind-again : (k : Kind) → kindOf (numberOf k) ≡ k
+unfolding kindOf
+kind-again kind.Unknown = refl
+kind-again kind.Contribution = refl
+kind-again kind.AddedCustomer = refl
+kind-again kind.Bill = refl
+kind-again kind.Payment = refl
+kind-again kind.Deposit = refl
+kind-again kind.DepositReturn = refl
+kind-again kind.Expiry = refl
+kind-again kind.Correction = refl
+
+pub same-kind : (k l : Kind) → sameOf k l ≡ true → k ≡ l
+same-kind k l e = sym (kind-again k) ∙ ap kindOf (eqb-true (numberOf k) (numberOf l) e) ∙ kind-again l
+
 pub is-contribution : (l : Kind) → not (sameOf l kind.Contribution) ≡ false → l ≡ kind.Contribution
-is-contribution kind.Unknown e = absurd (true≢false e)
-is-contribution kind.Contribution e = refl
-is-contribution kind.AddedCustomer e = absurd (true≢false e)
-is-contribution kind.Bill e = absurd (true≢false e)
-is-contribution kind.Payment e = absurd (true≢false e)
-is-contribution kind.Deposit e = absurd (true≢false e)
-is-contribution kind.DepositReturn e = absurd (true≢false e)
-is-contribution kind.Expiry e = absurd (true≢false e)
-is-contribution kind.Correction e = absurd (true≢false e)
+is-contribution l e = same-kind l kind.Contribution (not-false _ e)
 
 pub is-sum : (l : Kind) → not (sameOf l kind.Bill || sameOf l kind.Payment) ≡ false → (bill : Bool) × (l ≡ correctable bill)
-is-sum kind.Unknown e = absurd (true≢false e)
-is-sum kind.Contribution e = absurd (true≢false e)
-is-sum kind.AddedCustomer e = absurd (true≢false e)
-is-sum kind.Bill e = (true, refl)
-is-sum kind.Payment e = (false, refl)
-is-sum kind.Deposit e = absurd (true≢false e)
-is-sum kind.DepositReturn e = absurd (true≢false e)
-is-sum kind.Expiry e = absurd (true≢false e)
-is-sum kind.Correction e = absurd (true≢false e)
+is-sum l = go (sameOf l kind.Bill) (sameOf l kind.Payment) refl refl
+  where
+    go : (s t : Bool) → sameOf l kind.Bill ≡ s → sameOf l kind.Payment ≡ t → not (s || t) ≡ false → (bill : Bool) × (l ≡ correctable bill)
+    go true t p q e = (true, same-kind l kind.Bill p)
+    go false true p q e = (false, same-kind l kind.Payment q)
+    go false false p q e = absurd (true≢false e)
 
 pub no-kind : kindOf 0 ≡ kind.Unknown
 unfolding kindOf

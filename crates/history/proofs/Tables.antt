@@ -2,14 +2,12 @@
 use mathlib.Core.Path.{_≡_, refl, sym, ap, _∙_}
 use Prim.Native.Nat.{ℕ, _+_, _-_}
 use native.Mathlib.Omega.{arith}
-use mathlib.Core.Bool.{Bool, true, false, cond, not, _&&_, _||_, or-false}
+use mathlib.Core.Bool.{Bool, true, false, cond, not, _&&_, _||_, true≢false}
 use mathlib.Core.List.{List, [], _∷_, _++_}
 use lib.ListN.{length, drop}
 use lib.Dec.{eqb, leb, ltb}
 use borrow.Author.Tests.{ltb-true, ltb-false, leb-true, leb-false, le-leb, lt-leb, lt-ltb, le-ltb, not-false}
-use Rattle.measures.specs.Cents.{cents}
-use Rattle.measures.specs.Days.{day}
-use Rattle.entries.specs.Kinds.{kindOf, misnamesOf, sameOf}
+use Rattle.entries.specs.Kinds.{kindOf, namesOf, misnamesOf, sameOf}
 use Rattle.entries.specs.Ranges.{between}
 use Rattle.entries.specs.Refusals.{refusalNumber, ruleOf}
 use Rattle.entries.specs.Refusals as checks
@@ -20,23 +18,29 @@ use Rattle.entries.specs.declared.kinds.Kind.the-variants as kind
 use Rattle.entries.specs.declared.data.Entry.{Entry}
 use Rattle.entries.specs.declared.data.Named.{Named}
 use Rattle.entries.specs.declared.refusals.Refusal.{Refusal}
+use Rattle.entries.specs.declared.refusals.Refusal.the-variants as no
+use Rattle.entries.specs.declared.refusals.Check.{Check}
 use Rattle.entries.specs.declared.refusals.Check.the-variants as check
-use Rattle.measures.specs.declared.Day.{Day}
 use Rattle.entries.proofs.Rows.{refused-stays}
-use Rattle.rules.specs.Checks.{depositClash, stateRows, checkStateOf, refundPeriod}
+use Rattle.rules.specs.Checks.{ownRows, namingRows, checkOwnOf, checkNamingOf, refundPeriod}
+use Rattle.rules.specs.Changes.{ownChangeOf, namingChangeOf, decidedOf, ownOutcomeOf, namingOutcomeOf}
+use Rattle.rules.specs.declared.changes.Outcome.{Outcome}
+use Rattle.rules.specs.declared.changes.Outcome.the-variants.{Refused, Accepted}
 use Rattle.rules.specs.declared.accounts.Account.{Account}
-use Rattle.book.specs.Refusals.{entryRows, checkEntryOf}
+use Rattle.book.specs.Chain as chains
+use Rattle.book.specs.Refusals.{entryRows, checkEntryOf, searchedOf, outcomeOf}
 use Rattle.entries.proofs.Numbers.{checkNumber}
-use Rattle.history.specs.History.{History, naming, suits, period, lastSerial, Fate, Balance, Row, firstOf, refusals}
+use Rattle.history.specs.History.{History, accounts, entries, naming, suits, period, lastSerial, missing, Fate, entryIn, fateIn, Balance, Row, firstOf, refusals}
 use Rattle.history.specs.Agreement.{keptAccount}
-use Rattle.history.proofs.Accept.{is-contribution}
+use Rattle.history.proofs.Accept.{or-left, or-right, no-kind, same-kind, is-contribution}
 
--- row by row the same test and number, each as far as no earlier row stops the entry
-abbrev pub Same : List checks.Row → List Row → Type 0
-Same [] [] = Unit {0}
-Same [] (y ∷ ys) = ⊥
-Same (x ∷ xs) [] = ⊥
-Same (x ∷ xs) (y ∷ ys) = (x .broken ≡ y .broken) × (refusalNumber (x .refusal) ≡ y .number) × (y .broken ≡ false → Same xs ys)
+-- Row by row the same test and number, where a row of the history's that the book's table has not is not broken; each as far as no
+-- earlier row stops the entry.
+pub data Same : List checks.Row → List Row → Type 0 where
+  ends : Same [] []
+  row : {x : checks.Row} {xs : List checks.Row} {y : Row} {ys : List Row} → x .broken ≡ y .broken → refusalNumber (x .refusal) ≡ y .number →
+      (y .broken ≡ false → Same xs ys) → Same (x ∷ xs) (y ∷ ys)
+  skip : {xs : List checks.Row} {y : Row} {ys : List Row} → y .broken ≡ false → Same xs ys → Same xs (y ∷ ys)
 
 refused-first : (n : Refusal) (xs : List checks.Row) → checks.firstOf (check.Refused n) xs ≡ check.Refused n
 refused-first n [] = refl
@@ -44,14 +48,13 @@ refused-first n (x ∷ xs) = rw (refused-stays n (x .refusal) (x .broken)) (refu
 
 pub first-same : (xs : List checks.Row) (ys : List Row) → Same xs ys → checkNumber (checks.firstOf check.Passed xs) ≡ firstOf ys
 unfolding ruleOf checkNumber
-first-same [] [] s = refl
-first-same [] (y ∷ ys) s = absurd s
-first-same (x ∷ xs) [] s = absurd s
-first-same (x ∷ xs) (y ∷ ys) s = rw (s .0) (go (λ q. first-same xs ys q) (y .broken) refl)
+first-same [] [] ends = refl
+first-same xs (y ∷ ys) (skip n s) = rw n (first-same xs ys s)
+first-same (x ∷ xs) (y ∷ ys) (row p q s) = rw p (go (λ t. first-same xs ys t) (y .broken) refl)
   where
     go : (Same xs ys → checkNumber (checks.firstOf check.Passed xs) ≡ firstOf ys) → (t : Bool) → y .broken ≡ t → checkNumber (checks.firstOf (ruleOf check.Passed t (x .refusal)) xs) ≡ cond t (y .number) (firstOf ys)
-    go ih true e = rw (refused-first (x .refusal) xs) (s .1)
-    go ih false e = ih (s .2 e)
+    go ih true e = rw (refused-first (x .refusal) xs) q
+    go ih false e = ih (s e)
 
 -- TESTS THAT ARE SAID UNLIKE
 age-over : (x y : ℕ) → leb refundPeriod (x - y) ≡ leb (y + period) x
@@ -80,32 +83,29 @@ misnames-same kind.DepositReturn l = refl
 misnames-same kind.Expiry l = refl
 misnames-same kind.Correction l = refl
 
-clash-same : (k : Kind) (d : ℕ) → depositClash k (cents d) ≡ (sameOf k kind.Deposit && ltb 0 d || sameOf k kind.DepositReturn && eqb d 0)
-clash-same kind.Unknown d = refl
-clash-same kind.Contribution d = refl
-clash-same kind.AddedCustomer d = refl
-clash-same kind.Bill d = refl
-clash-same kind.Payment d = refl
-clash-same kind.Deposit d = sym (or-false (ltb 0 d))
-clash-same kind.DepositReturn d = refl
-clash-same kind.Expiry d = refl
-clash-same kind.Correction d = refl
+-- a kind that names an entry is none that doesn't
+naming-not : (k l : Kind) → naming l ≡ false → naming k ≡ true → sameOf k l ≡ false
+naming-not k l n e = go (sameOf k l) refl
+  where
+    go : (t : Bool) → sameOf k l ≡ t → t ≡ false
+    go true p = absurd (true≢false (sym e ∙ ap naming (same-kind k l p) ∙ n))
+    go false p = refl
 
-before-same : (t : Bool) (d e : Day) → cond t d e .0 ≡ cond t (d .0) (e .0)
-before-same true d e = refl
-before-same false d e = refl
+-- a return's first day is the deposit's, and else that of no entry
+own-day : (t : Bool) (x deposited : ℕ) → (t && ltb x deposited) ≡ ltb x (cond t deposited 0)
+own-day true x deposited = refl
+own-day false x deposited = sym (le-ltb x 0 (omega arith))
 
 added-same : (k l : Kind) (p q : Bool) → (l ≡ kind.Contribution → p ≡ q) → (naming k && not (suits k l)) ≡ false →
     (sameOf k kind.AddedCustomer && p) ≡ (sameOf k kind.AddedCustomer && q)
-added-same kind.Unknown l p q e s = refl
-added-same kind.Contribution l p q e s = refl
-added-same kind.AddedCustomer l p q e s = e (is-contribution l s)
-added-same kind.Bill l p q e s = refl
-added-same kind.Payment l p q e s = refl
-added-same kind.Deposit l p q e s = refl
-added-same kind.DepositReturn l p q e s = refl
-added-same kind.Expiry l p q e s = refl
-added-same kind.Correction l p q e s = refl
+added-same k l p q e s = go (sameOf k kind.AddedCustomer) refl
+  where
+    suited : k ≡ kind.AddedCustomer → not (sameOf l kind.Contribution) ≡ false
+    suited a = rw a at s
+
+    go : (t : Bool) → sameOf k kind.AddedCustomer ≡ t → (t && p) ≡ (t && q)
+    go true a = e (is-contribution l (suited (same-kind k kind.AddedCustomer a)))
+    go false a = refl
 
 -- what the rules read of a named entry is what the history says of it
 pub record Seen (n : Named) (l : Kind) (x : Raw) (f : Fate) : Type 0 where
@@ -115,75 +115,88 @@ pub record Seen (n : Named) (l : Kind) (x : Raw) (f : Fate) : Type 0 where
   pub phases : cond (sameOf l kind.Contribution) (n .phases) 0 ≡ cond (sameOf l kind.Contribution) (x .b) 0
   pub built : cond (sameOf l kind.Contribution) (n .built .0) 0 ≡ cond (sameOf l kind.Contribution) (x .a) 0
 
-module _ (h : History) (r : Raw) (k : Kind) (newest : ℕ) (b : Balance) (e : Entry) (x : Raw) (f : Fate) (on : e .day .0 ≡ x .day) (s : Seen (namedOf (e .«data»)) (kindOf (x .kind)) x f) where
-  pub state-same : Same (stateRows r k (keptAccount b newest) e) (drop 7 (refusals h r k x f b))
-  state-same = (
-    rw (s .of-kind) (misnames-same k (kindOf (x .kind))),
-    refl,
-    λ suited. (
-      clash-same k (b .deposit),
-      refl,
-      λ t. (
-        ap (λ n. ltb (r .day) n) (before-same (sameOf k kind.DepositReturn) (day (b .deposited)) (e .day) ∙ ap (λ n. cond (sameOf k kind.DepositReturn) (b .deposited) n) on),
-        refl,
-        λ t. (
-          s .closed,
-          refl,
-          λ t. (
-            ap (λ q. sameOf k kind.AddedCustomer && q) (age-over (r .day) (e .day .0) ∙ ap (λ n. leb (n + period) (r .day)) on),
-            refl,
-            λ t. (
-              ap (λ q. sameOf k kind.Expiry && q) (age-below (r .day) (e .day .0) ∙ ap (λ n. ltb (r .day) (n + period)) on),
-              refl,
-              λ t. (
-                added-same k (kindOf (x .kind)) _ _ (λ l. ap (λ n. eqb (r .b) 1 && eqb n 3) (rw l at (s .phases))) suited,
-                refl,
-                λ t. (
-                  added-same k (kindOf (x .kind)) _ _ (λ l. ap (λ n. ltb n (r .a)) (rw l at (s .built))) suited,
-                  refl,
-                  λ t.
-                      (s .corrected, refl, λ t. tt),
-                ),
-              ),
-            ),
-          ),
-        ),
-      ),
-    ),
-  )
+-- what is left of the table after 1 to 7, for the entry that r names or none, and what an entry does that passes it
+abbrev pub rows : Raw → Kind → Account → Bool → chains.Sought → List checks.Row
+rows r k acc false s = ownRows r k acc
+rows r k acc true chains.missing = (true checks.⇒ no.NotOnChain) ∷ []
+rows r k acc true (chains.found i e) = namingRows r k e
+
+abbrev pub effect : Raw → Kind → Account → Bool → chains.Sought → Outcome
+effect r k acc false s = Accepted (ownChangeOf r k acc)
+effect r k acc true chains.missing = Refused no.NotOnChain
+effect r k acc true (chains.found i e) = Accepted (namingChangeOf r k acc i (e .«data»))
+
+-- the parted checks are one table
+parted : (c : Check) (xs ys : List checks.Row) (o : Outcome) →
+    decidedOf (checks.firstOf c xs) (decidedOf (checks.firstOf check.Passed ys) o) ≡ decidedOf (checks.firstOf c (xs ++ ys)) o
+unfolding decidedOf
+parted check.Passed [] ys o = refl
+parted (check.Refused n) [] ys o = rw (refused-first n ys) refl
+parted c (x ∷ xs) ys o = parted (ruleOf c (x .broken) (x .refusal)) xs ys o
+
+pub one-table : (r : Raw) (count last : ℕ) (acc : Account) (s : chains.Sought) → let k = kindOf (r .kind) in
+    outcomeOf r count last acc s ≡ decidedOf (checks.firstOf check.Passed (entryRows r k count last ++ rows r k acc (namesOf k) s)) (effect r k acc (namesOf k) s)
+unfolding outcomeOf checkEntryOf
+one-table r count last acc s = rw (go (namesOf k) s) (parted check.Passed (entryRows r k count last) (rows r k acc (namesOf k) s) (effect r k acc (namesOf k) s))
+  where
+    k : Kind
+    k = kindOf (r .kind)
+
+    go : (t : Bool) (s : chains.Sought) →
+        cond t (searchedOf r k acc s) (ownOutcomeOf r k acc) ≡ decidedOf (checks.firstOf check.Passed (rows r k acc t s)) (effect r k acc t s)
+    unfolding searchedOf ownOutcomeOf namingOutcomeOf checkOwnOf checkNamingOf ruleOf decidedOf
+    go false s = refl
+    go true chains.missing = refl
+    go true (chains.found i e) = refl
+
+-- THE ROWS FROM 8 ON
+module _ (h : History) (r : Raw) (k : Kind) (b : Balance) where
+  -- of an entry that names nothing
+  pub own-same : (newest : ℕ) → naming k ≡ false → Same (rows r k (keptAccount b newest) false chains.missing) (drop 7 (refusals h r k (entryIn missing) (fateIn h missing) b))
+  own-same newest n =
+      let other : (p : Bool) → (sameOf k kind.AddedCustomer && p) ≡ false = λ p. ap (λ t. t && p) (or-left _ _ n) in
+      let expiry : (p : Bool) → (sameOf k kind.Expiry && p) ≡ false = λ p. ap (λ t. t && p) (or-left _ _ (or-right _ _ n)) in
+      skip (rw n refl)
+      (row refl refl (λ t.
+      row (own-day (sameOf k kind.DepositReturn) (r .day) (b .deposited)) refl (λ t.
+      skip (rw no-kind refl) (skip (other _) (skip (expiry _) (skip (other _) (skip (other _) (skip (rw no-kind refl) ends))))))))
+
+  -- of an entry that names one that is not on the chain
+  pub missing-same : (acc : Account) → naming k ≡ true → Same (rows r k acc true chains.missing) (drop 7 (refusals h r k (entryIn missing) (fateIn h missing) b))
+  missing-same acc n =
+      let stops : true ≡ (naming k && not (suits k (kindOf 0))) = rw (n, no-kind) (none (sameOf k kind.Correction)) in
+      row stops refl (λ t. absurd (true≢false (stops ∙ t)))
+    where
+      none : (t : Bool) → true ≡ not (cond t false false)
+      none true = refl
+      none false = refl
+
+  -- of an entry that names e, which the history has as x
+  module _ (acc : Account) (i : ℕ) (e : Entry) (x : Raw) (f : Fate) (n : naming k ≡ true) (on : e .day .0 ≡ x .day) (s : Seen (namedOf (e .«data»)) (kindOf (x .kind)) x f) where
+    pub naming-same : Same (rows r k acc true (chains.found i e)) (drop 7 (refusals h r k x f b))
+    naming-same =
+        let returned = naming-not k kind.DepositReturn refl n in
+        row (rw (s .of-kind) (misnames-same k (kindOf (x .kind)))) refl (λ suited.
+        skip (rw (naming-not k kind.Deposit refl n, returned) refl)
+        (row (rw returned (ap (λ n. ltb (r .day) n) on)) refl (λ t.
+        row (s .closed) refl (λ t.
+        row (ap (λ q. sameOf k kind.AddedCustomer && q) (age-over (r .day) (e .day .0) ∙ ap (λ n. leb (n + period) (r .day)) on)) refl (λ t.
+        row (ap (λ q. sameOf k kind.Expiry && q) (age-below (r .day) (e .day .0) ∙ ap (λ n. ltb (r .day) (n + period)) on)) refl (λ t.
+        row (added-same k (kindOf (x .kind)) _ _ (λ l. ap (λ n. eqb (r .b) 1 && eqb n 3) (rw l at (s .phases))) suited) refl (λ t.
+        row (added-same k (kindOf (x .kind)) _ _ (λ l. ap (λ n. ltb n (r .a)) (rw l at (s .built))) suited) refl (λ t.
+        row (s .corrected) refl (λ t. ends)))))))))
 
 -- the two tables as a whole
-module _ (h : History) (r : Raw) (k : Kind) (count last : ℕ) (acc : Account) (e : Entry) (x : Raw) (f : Fate) (b : Balance) (counted : count ≡ length h)
+module _ (h : History) (r : Raw) (k : Kind) (count last : ℕ) (rest : List checks.Row) (x : Raw) (f : Fate) (b : Balance) (counted : count ≡ length h)
     (lasts : between (r .node) 1 2 ≡ true → last ≡ lastSerial h (r .node))
-    (state : between (r .account) 1 128 ≡ true → Same (stateRows r k acc e) (drop 7 (refusals h r k x f b))) where
-  all-same : Same (entryRows r k count last ++ stateRows r k acc e) (refusals h r k x f b)
-  all-same = (
-    refl,
-    refl,
-    λ t. (
-      refl,
-      refl,
-      λ node. (
-        refl,
-        refl,
-        λ account. (
-          refl,
-          refl,
-          λ t. (
-            refl,
-            refl,
-            λ t. (
-              ap (λ n. leb (r .serial) n) (lasts (not-false _ node)),
-              refl,
-              λ t.
-                  (ap (λ n. leb 1024 n) counted, refl, λ t. state (not-false _ account)),
-            ),
-          ),
-        ),
-      ),
-    ),
-  )
-
-  pub check-same : checkNumber (checkStateOf (checkEntryOf r k count last) r k acc e) ≡ firstOf (refusals h r k x f b)
-  unfolding checkStateOf checkEntryOf
-  check-same = first-same (entryRows r k count last ++ stateRows r k acc e) (refusals h r k x f b) all-same
+    (state : between (r .account) 1 accounts ≡ true → Same rest (drop 7 (refusals h r k x f b))) where
+  pub check-same : checkNumber (checks.firstOf check.Passed (entryRows r k count last ++ rest)) ≡ firstOf (refusals h r k x f b)
+  check-same =
+      first-same (entryRows r k count last ++ rest) (refusals h r k x f b)
+      (row refl refl (λ t.
+      row refl refl (λ node.
+      row refl refl (λ account.
+      row refl refl (λ t.
+      row refl refl (λ t.
+      row (ap (λ n. leb (r .serial) n) (lasts (not-false _ node))) refl (λ t.
+      row (ap (λ n. leb entries n) counted) refl (λ t. state (not-false _ account)))))))))
