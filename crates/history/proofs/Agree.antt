@@ -44,7 +44,8 @@ use Rattle.queries.specs.Chain.{chainAt}
 use Rattle.entries.proofs.Numbers.{refusal-above, checkNumber}
 use Rattle.history.specs.History.{History, accounts, entries, lastSerial, naming, Sought, missing, found, find, named, posted, refundOf, change, fate, entryIn, fateIn, Balance, Move, stays, charges, credits, refunds, deposits, returns, retains, moved, moveBy, balance, Amounts, answered, amounts, judge, joined, offer, repliedBy, repliedOf, toArrears, refundsPaid}
 use Rattle.history.specs.Laws.{Valid, empty, joins}
-use Rattle.history.specs.Agreement.{newestOf, keptAccount, keptData, dataIn, keptEntry, keptChain, Rows, start, more, Agrees, Kept, Agreement}
+use Rattle.history.specs.Images.{newestOf}
+use Rattle.history.specs.Agreement.{keptAccount, keptData, dataIn, keptEntry, keptChain, Rows, start, more, Agrees, Kept, Agreement}
 use Rattle.history.proofs.Accept.{accepts, fits, named-none, Sort, as-contribution, as-added, as-bill, as-payment, as-deposit, as-return, as-expiry, as-correction, correctable, sorted, Role, alone, upon, role}
 use Rattle.history.proofs.Names.{hit, fate-new, customers-new, misses-kind, hits, names-points, fate-hit, customers-hit, customers-other}
 use Rattle.history.proofs.Moves.{named-at, move-contribution, move-bill, move-payment, move-deposit, move-return, move-added, move-expiry, move-correction, corrects}

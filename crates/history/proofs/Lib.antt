@@ -10,8 +10,9 @@ pub mod Stored
 pub mod Agree
 pub mod Determined
 pub mod Lawful
+pub mod Records
 pub mod Carry
 pub mod Queries
 pub mod Claim
-pub mod Hosts
 pub mod Trips
+pub mod Hosts

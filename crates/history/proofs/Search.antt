@@ -24,7 +24,8 @@ use Rattle.book.specs.declared.Book.{Book}
 use Rattle.book.proofs.Chain.{findIn-none, findIn-ends, findIn-hit, findIn-miss}
 use Rattle.queries.specs.Chain.{chainOf}
 use Rattle.history.specs.History.{History, accounts, entries, lastSerial, naming, points, Sought, missing, found, find, named, Fate, posted, fate, asking, entryIn, fateIn}
-use Rattle.history.specs.Agreement.{newestOf, keptData, keptEntry, keptChain, Rows, start, more, Agrees}
+use Rattle.history.specs.Images.{newestOf}
+use Rattle.history.specs.Agreement.{keptData, keptEntry, keptChain, Rows, start, more, Agrees}
 use Rattle.history.proofs.Accept.{no-kind}
 use Rattle.history.proofs.Tables.{Seen}
 
