@@ -1,6 +1,6 @@
 -- Laws of a posting: what an accepted one has passed, and what each outcome makes of the book.
 use Prim.Native.Nat.{ℕ, _+_, _<_, _≤_}
-use mathlib.Core.List.{List, [], _∷_, _++_}
+use mathlib.Core.List.{List, [], _∷_}
 use lib.ListN.{length, getD, set}
 use mathlib.Core.Path.{_≡_, refl, sym, ap, _∙_}
 use mathlib.Core.Bool.{Bool, true, false, cond}
@@ -35,7 +35,7 @@ use Rattle.book.specs.Chain.{slotOf, startOf, soughtIn}
 use Rattle.book.specs.Posting.{accountAt, lookupOf, rewritten, storedOf, bookAfter, decisionOf, postOf, postsOf}
 use Rattle.book.specs.declared.Book.{Book}
 use Rattle.book.specs.declared.Serials.{Serials}
-use Rattle.book.proofs.Chain.{Inside, find-inside}
+use Rattle.book.proofs.Chain.{find-inside}
 
 pub decided-passed : (c : Check) (o : Outcome) (x : Change) → decidedOf c o ≡ Accepted x → (c ≡ check.Passed) × (o ≡ Accepted x)
 unfolding decidedOf
@@ -110,11 +110,6 @@ post-accepted b r x o a n acc new next f l ans decided accepted slot number numb
     rw (answered, after, rewrites, ← names, entry, numbered, number, slot, ← decided, accepted) refl
 
 -- ---- lists of postings
-
-pub posts-append : (b : Book) (rs ts : List Raw) → postsOf (postsOf b rs) ts ≡ postsOf b (rs ++ ts)
-unfolding postsOf
-posts-append b [] ts = refl
-posts-append b (r ∷ rs) ts = posts-append (postOf b r .book) rs ts
 
 -- an entry adds one to the count at most
 post-count : (b : Book) (r : Raw) → postOf b r .book .count ≤ b .count + 1

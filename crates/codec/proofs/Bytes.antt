@@ -28,9 +28,11 @@ le-un (b ∷ bs) h =
     let hi : (b + 256 * un bs) / 256 ≡ un bs = omega arith in
     rw (lo, hi, le-un bs (h .1))
 
-pub un-lt : (bs : List ℕ) → Bytes bs → un bs < cap (length bs)
-un-lt [] h = omega arith
-un-lt (b ∷ bs) h = let i = un-lt bs (h .1) in omega arith
+-- the number of w bytes, or of fewer where the list ends
+pub un-lt : (w : ℕ) (l : List ℕ) → Bytes l → un (take w l) < cap w
+un-lt zero l h = omega arith
+un-lt (suc w) [] h = let i = un-lt w [] h in omega arith
+un-lt (suc w) (b ∷ l) h = let i = un-lt w l (h .1) in omega arith
 
 pub bytes-take : (n : ℕ) (l : List ℕ) → Bytes l → Bytes (take n l)
 bytes-take zero l h = tt
@@ -41,11 +43,6 @@ pub bytes-drop : (n : ℕ) (l : List ℕ) → Bytes l → Bytes (drop n l)
 bytes-drop zero l h = h
 bytes-drop (suc n) [] h = tt
 bytes-drop (suc n) (b ∷ l) h = bytes-drop n l (h .1)
-
--- what a slice of bytes tells, element by element
-pub bytes-of : (l : List ℕ) → ((i : ℕ) → getD l i 0 < 256) → Bytes l
-bytes-of [] h = tt
-bytes-of (b ∷ l) h = (h 0, bytes-of l (λ i. h (suc i)))
 
 -- reading a field's bytes and writing them again gives them back
 pub le-un-take : (w : ℕ) (l : List ℕ) → w ≤ length l → Bytes l → le w (un (take w l)) ≡ take w l

@@ -4,10 +4,10 @@ use mathlib.Core.Path.{_≡_, refl}
 use mathlib.Core.List.{List, [], _∷_, _++_, append-assoc}
 use native.Mathlib.Omega.{arith}
 use lib.ListN.{length, getD, take, drop, length-append, length-drop}
-use lib.Seq.{take-at, drop-at, take-add, drop-drop, getD-drop, length-take-le}
-use Rattle.codec.specs.Bytes.{le, un, cap, Bytes}
+use lib.Seq.{take-at, drop-at, take-add, drop-drop, getD-drop}
+use Rattle.codec.specs.Bytes.{le, un, Bytes}
 use Rattle.codec.specs.Layouts.{total, pack, unpack, Fit}
-use Rattle.codec.proofs.Bytes.{length-le, un-le, un-lt, bytes-take, bytes-drop, le-un-take, un-same}
+use Rattle.codec.proofs.Bytes.{length-le, un-le, un-lt, bytes-drop, le-un-take, un-same}
 
 pub length-pack : (ws vs : List ℕ) → length vs ≡ length ws → length (pack ws vs) ≡ total ws
 length-pack [] vs h = refl
@@ -29,11 +29,9 @@ pack-unpack (w ∷ ws) l k h =
     rw (le-un-take w l (omega arith) h, pack-unpack ws (drop w l) (simp length-drop (omega arith)) (bytes-drop w l h), take-add w (total ws) l)
 
 -- what bytes hold fits the layout
-pub fit-unpack : (ws l : List ℕ) → total ws ≤ length l → Bytes l → Fit ws (unpack ws l)
-fit-unpack [] l k h = tt
-fit-unpack (w ∷ ws) l k h =
-    let lt : un (take w l) < cap w = rw (length-take-le w l (omega arith)) at (un-lt (take w l) (bytes-take w l h)) in
-    (lt, fit-unpack ws (drop w l) (simp length-drop (omega arith)) (bytes-drop w l h))
+pub fit-unpack : (ws l : List ℕ) → Bytes l → Fit ws (unpack ws l)
+fit-unpack [] l h = tt
+fit-unpack (w ∷ ws) l h = (un-lt w l h, fit-unpack ws (drop w l) (bytes-drop w l h))
 
 -- the values, each field's place a sum of widths: at a layout that is written out the places are numerals
 abbrev pub unpackAt : List ℕ → ℕ → List ℕ → List ℕ

@@ -15,7 +15,7 @@ use Rattle.book.proofs.Posting.{posts-count}
 use Rattle.carry.specs.Carry.{refusalsOf, carryRefusalOf, carryResultsOf}
 use Rattle.image.specs.Saves.{SaveReply, refusedSave, acceptedSave, bytesOf, saveOf, savedIn}
 use Rattle.entries.proofs.Numbers.{refusal-above, is-refusal}
-use Rattle.image.proofs.Again.{done, short}
+use Rattle.image.proofs.Saving.{save-size, save-short}
 use Rattle.queries.specs.Statement.{statementReplyOf}
 use Rattle.queries.specs.Contribution.{contributionReplyOf}
 use Rattle.queries.specs.declared.statements.StatementAnswer.the-variants as S
@@ -75,7 +75,7 @@ pub post-accepted : (b next : Book) (entry output after : List ℕ) (n : ℕ) �
 unfolding postInto
 post-accepted b next entry output after n h e q saved left =
     let none : postRefusal b entry output ≡ 0 = post-saved b entry output h e ∙ ap (λ (x : Book). saveOf x output .refusal) (sym q) ∙ ap (λ (x : SaveReply). x .refusal) (sym saved) in
-    rw (eq-eqb (postRefusal b entry output) 0 none, left, done next output n saved .size, q) refl
+    rw (eq-eqb (postRefusal b entry output) 0 none, left, save-size next output n saved, q) refl
 
 pub post-short : (b next : Book) (entry output after : List ℕ) (n : Refusal) → length entry ≡ 24 →
     postOf b (entryIn entry) .reply .refusal ≡ 0 → next ≡ postOf b (entryIn entry) .book →
@@ -84,7 +84,7 @@ pub post-short : (b next : Book) (entry output after : List ℕ) (n : Refusal) �
 unfolding postInto savedIn
 post-short b next entry output after n h e q saved left =
     let by : postRefusal b entry output ≡ refusalNumber n = post-saved b entry output h e ∙ ap (λ (x : Book). saveOf x output .refusal) (sym q) ∙ ap (λ (x : SaveReply). x .refusal) (sym saved) in
-    let less = lt-ltb (length output) (bytesOf next) (short next output (refusalNumber n) (refusal-above n) saved .less) in
+    let less = save-short next output (refusalNumber n) (refusal-above n) saved in
     rw (by, is-refusal n, left, less) refl
 
 -- ---- a carry-over
@@ -122,7 +122,7 @@ module _ (b : Book) (run results output : List ℕ) (h : length run % 24 ≡ 0) 
   carry-accepted next marked after n q saved put left =
       let none : carryRefusal b run results output ≡ 0 = carry-saved ∙ ap (λ (x : Book). saveOf x output .refusal) (sym q) ∙ ap (λ (x : SaveReply). x .refusal) (sym saved) in
       let written = put ∙ results-put b (runOf run) results (omega (arith, length-run run)) in
-      rw (eq-eqb (carryRefusal b run results output) 0 none, long, left, written, done next output n saved .size, q) refl
+      rw (eq-eqb (carryRefusal b run results output) 0 none, long, left, written, save-size next output n saved, q) refl
 
   -- an output that is not too short is not refused
   pub carry-fits : (next : Book) (n : Refusal) → next ≡ nextOf b run → ltb (length output) (bytesOf (nextOf b run)) ≡ false →

@@ -14,9 +14,8 @@ use Rattle.codec.proofs.Records.{length-decodeAll}
 use Rattle.book.specs.Posting.{postOf, postsOf}
 use Rattle.book.specs.declared.Book.{Book}
 use Rattle.carry.specs.Carry.{refusalsOf}
-use Rattle.image.specs.Loads.{answeredOf, loadedReply, wholeOf}
+use Rattle.image.specs.Loads.{answeredOf, loadedReply, wholeOf, rawIn}
 use Rattle.image.specs.Replays.{listedIn, replayOf}
-use Rattle.image.specs.Rounds.{rawIn}
 use Rattle.image.specs.declared.loads.Loaded.{Loaded}
 use Rattle.image.specs.declared.loads.LoadAnswer.{LoadAnswer}
 use Rattle.image.specs.declared.loads.LoadAnswer.the-variants.{Accepted, Refused}

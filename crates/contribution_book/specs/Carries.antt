@@ -12,8 +12,7 @@ use Rattle.book.specs.Posting.{postsOf}
 use Rattle.book.specs.declared.Book.{Book}
 use Rattle.carry.specs.Carry.{carryRefusalOf, carryResultsOf}
 use Rattle.image.specs.Saves.{bytesOf, saveOf, savedIn}
-use Rattle.image.specs.Loads.{LoadReply}
-use Rattle.image.specs.Rounds.{rawIn}
+use Rattle.image.specs.Loads.{LoadReply, rawIn}
 use Rattle.contribution_book.specs.Order.{firstRefusal}
 use Rattle.contribution_book.specs.declared.carries.CarryGiven.{CarryGiven}
 

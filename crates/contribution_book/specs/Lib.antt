@@ -3,4 +3,3 @@ pub mod Checks
 pub mod Posts
 pub mod Carries
 pub mod Reads
-pub mod Trips

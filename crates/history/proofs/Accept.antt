@@ -12,7 +12,7 @@ use Rattle.entries.specs.Ranges.{amountMost, limitsOf, bFits, inRangeOf}
 use Rattle.entries.specs.declared.raw.Raw.{Raw}
 use Rattle.entries.specs.declared.kinds.Kind.{Kind}
 use Rattle.entries.specs.declared.kinds.Kind.the-variants as kind
-use Rattle.entries.proofs.Ranges.{inside, ranged}
+use Rattle.entries.proofs.Ranges.{inside, Ranged, ranged}
 use Rattle.history.specs.History.{accounts, entries, period, History, lastSerial, naming, suits, Sought, missing, found, find, named, Fate, fate, entryIn, fateIn, Balance, balance, Row, firstOf, refusals, judge}
 use Rattle.history.specs.Laws.{Valid, empty, joins}
 
@@ -66,7 +66,7 @@ b-fits r false high l e = omega (arith, leb-true (r .b) high e)
 pub record InRange (r : Raw) (k : Kind) : Type 0 where
   pub amount : r .amount ≤ amountMost
   pub a : r .a ≤ 65535
-  pub a-kind : r .a ≤ limitsOf k (r .a) .«a_high»
+  pub by-kind : Ranged r k
   pub b : r .b ≤ 62
 
 in-range : (r : Raw) (k : Kind) → inRangeOf r k ≡ true → InRange r k
@@ -77,7 +77,7 @@ in-range r k e =
     record {
       amount = omega (arith, s .amount .1, h .0);
       a = omega (arith, s .a .1, h .1);
-      a-kind = s .a .1;
+      by-kind = s;
       b = b-fits r (l .phases) (l .«b_high») (h .2 (s .a .1)) (s .b);
     }
 
@@ -233,7 +233,7 @@ module _ (h : History) (r : Raw) where
   sort kind.Payment k p = as-payment k
   sort kind.Deposit k p =
       as-deposit k (let z = ltb-false 0 (balance h (r .account) .deposit) (or-left _ _ (p .deposit)) in omega arith)
-      (omega (arith, p .ranges .a-kind, rate-high (r .a)))
+      (omega (arith, p .ranges .by-kind .a .1, rate-high (r .a)))
   sort kind.DepositReturn k p = as-return k
   sort kind.Expiry k p = expired k (find h r) refl (rw (named-find h r (ap naming k)) at p)
   sort kind.Correction k p = corrected k (find h r) refl (rw (named-find h r (ap naming k)) at p)

@@ -44,7 +44,8 @@ use Rattle.queries.specs.Chain.{chainAt}
 use Rattle.entries.proofs.Numbers.{refusal-above, checkNumber}
 use Rattle.history.specs.History.{History, accounts, entries, lastSerial, naming, Sought, missing, found, find, named, posted, refundOf, change, fate, entryIn, fateIn, Balance, Move, stays, charges, credits, refunds, deposits, returns, retains, moved, moveBy, balance, Amounts, answered, amounts, judge, joined, offer, repliedBy, repliedOf, toArrears, refundsPaid}
 use Rattle.history.specs.Laws.{Valid, empty, joins}
-use Rattle.history.specs.Agreement.{newestOf, keptAccount, keptData, dataIn, keptEntry, keptChain, Rows, start, more, Agrees, Kept, Agreement}
+use Rattle.history.specs.Images.{newestOf}
+use Rattle.history.specs.Agreement.{keptAccount, keptData, dataIn, keptEntry, keptChain, Rows, start, more, Agrees, Kept, Agreement}
 use Rattle.history.proofs.Accept.{accepts, fits, named-none, Sort, as-contribution, as-added, as-bill, as-payment, as-deposit, as-return, as-expiry, as-correction, correctable, sorted, Role, alone, upon, role}
 use Rattle.history.proofs.Names.{hit, fate-new, customers-new, misses-kind, hits, names-points, fate-hit, customers-hit, customers-other}
 use Rattle.history.proofs.Moves.{named-at, move-contribution, move-bill, move-payment, move-deposit, move-return, move-added, move-expiry, move-correction, corrects}
@@ -57,15 +58,22 @@ use Rattle.history.proofs.Stored.{slot-at, rows-past, rows-miss, rows-h
 
 -- THE REFUSAL
 module _ {b : Book} {h : History} (w : Agrees b h) (v : Valid h) (r : Raw) where
-  pub refusal-same : checkNumber (checkStateOf (checkEntryOf r (kindOf (r .kind)) (b .count) (lastOf (b .last) (r .node))) r (kindOf (r .kind)) (accountAt b (r .account)) (namedAt b r)) ≡ judge h r
+  abbrev k : Kind
+  k = kindOf (r .kind)
+
+  abbrev sought : chains.Sought
+  sought = chains.soughtIn (b .entries) (lookupOf b r)
+
+  abbrev table : List checks.Row
+  table = entryRows r k (b .count) (lastOf (b .last) (r .node)) ++ rows r k (accountAt b (r .account)) (namesOf k) sought
+
+  pub refusal-same : checkNumber (checks.firstOf check.Passed table) ≡ judge h r
   unfolding judge
   refusal-same =
-      check-same h r (kindOf (r .kind)) (b .count) (lastOf (b .last) (r .node)) (accountAt b (r .account)) (namedAt b r) (entryIn (named h r)) (fateIn h (named h r)) (balance h (r .account)) (w .counted)
+      check-same h r k (b .count) (lastOf (b .last) (r .node)) (rows r k (accountAt b (r .account)) (namesOf k) sought) (entryIn (named h r)) (fateIn h (named h r)) (balance h (r .account))
+      (w .counted)
       (λ t. last-same w (fits v) r t)
-      (λ t. let e = alike w (fits v) r t in
-      let i = inside (r .account) 1 accounts t in
-      rw (w .account (r .account) (i .0) (i .1))
-      (state-same h r (kindOf (r .kind)) (newestOf h (r .account)) (balance h (r .account)) (namedAt b r) (entryIn (named h r)) (fateIn h (named h r)) (e .on) (e .seen)))
+      (λ t. state-same w (fits v) r t)
 
 decided-passed : (c : Check) (o : Outcome) → checkNumber c ≡ 0 → decidedOf c o ≡ o
 unfolding decidedOf checkNumber
@@ -78,13 +86,18 @@ decided-refused check.Passed o n e = absurd (omega arith)
 decided-refused (check.Refused m) o n e = (m, refl, e)
 
 module _ {b : Book} {h : History} (w : Agrees b h) (v : Valid h) (r : Raw) where
-  decision-refused : (n : ℕ) → judge h r ≡ suc n → (m : Refusal) × (decisionOf b r ≡ Refused m) × (refusalNumber m ≡ suc n)
-  unfolding decisionOf outcomeOf
-  decision-refused n j = decided-refused _ _ n (refusal-same w v r ∙ j)
+  abbrev does : Outcome
+  does = effect r (kindOf (r .kind)) (accountAt b (r .account)) (namesOf (kindOf (r .kind))) (chains.soughtIn (b .entries) (lookupOf b r))
 
-  decision-accepted : judge h r ≡ 0 → decisionOf b r ≡ effectOf r (kindOf (r .kind)) (accountAt b (r .account)) (lookupOf b r) (namedAt b r .«data»)
-  unfolding decisionOf outcomeOf
-  decision-accepted j = decided-passed _ _ (refusal-same w v r ∙ j)
+  whole : decisionOf b r ≡ decidedOf (checks.firstOf check.Passed (table w v r)) does
+  unfolding decisionOf
+  whole = one-table r (b .count) (lastOf (b .last) (r .node)) (accountAt b (r .account)) (chains.soughtIn (b .entries) (lookupOf b r))
+
+  decision-refused : (n : ℕ) → judge h r ≡ suc n → (m : Refusal) × (decisionOf b r ≡ Refused m) × (refusalNumber m ≡ suc n)
+  decision-refused n j = let d = decided-refused _ does n (refusal-same w v r ∙ j) in (d .0, whole ∙ d .1, d .2)
+
+  decision-accepted : judge h r ≡ 0 → decisionOf b r ≡ does
+  decision-accepted j = whole ∙ decided-passed _ does (refusal-same w v r ∙ j)
 
 -- THE EFFECT OF AN ACCEPTED ENTRY
 -- the data of the named entry after it
@@ -110,20 +123,16 @@ module _ {b : Book} {h : History} (w : Agrees b h) (v : Valid h) (r : Raw) (j : 
   lookup-at = lookup-same w (fits v) r known
 
   -- the entry that it names, as the book keeps it
-  entry-at : (i : ℕ) (e : Raw) → naming (kindOf (r .kind)) ≡ true → find h r ≡ found i e → namedAt b r ≡ getD (b .entries) i noEntry
-  unfolding entryAt
-  entry-at i e k f = rw (lookup-at, named-at h r bal i e f k) refl
-
-  data-at : (i : ℕ) (e : Raw) → naming (kindOf (r .kind)) ≡ true → find h r ≡ found i e → namedAt b r .«data» ≡ dataIn h e
+  data-at : (i : ℕ) (e : Raw) → find h r ≡ found i e → getD (b .entries) i noEntry .«data» ≡ dataIn h e
   unfolding entryOf
-  data-at i e k f = ap (λ (x : Entry). x .«data») (entry-at i e k f ∙ kept-found h (b .entries) (w .rows) r i e f .1)
+  data-at i e f = ap (λ (x : Entry). x .«data») (kept-found h (b .entries) (w .rows) r i e f .1)
 
   data-new : dataIn (r ∷ h) r ≡ keptData (kindOf (r .kind)) r (posted r) 0 0
   data-new = rw (fate-new v r j, customers-new v (λ (y : Amounts). y .settled) r j, customers-new v (λ (y : Amounts). y .paidOut) r j) refl
 
   abbrev Effect : Move → Data → Sought → Data → Type 0
   Effect m new s named′ =
-      effectOf r (kindOf (r .kind)) (accountAt b (r .account)) (lookupOf b r) (namedAt b r .«data») ≡ Accepted (changeBy m bal last new (placeOf s) named′)
+      does w v r ≡ Accepted (changeBy m bal last new (placeOf s) named′)
 
   close : (m : Move) (new : Data) (s : Sought) (named′ : Data) → moveBy h r bal ≡ m → dataIn (r ∷ h) r ≡ new → named h r ≡ s → newNamed h r s ≡ named′ →
       Effect m new s named′ → Effect (moveBy h r bal) (dataIn (r ∷ h) r) (named h r) (newNamed h r (named h r))
@@ -156,29 +165,29 @@ module _ {b : Book} {h : History} (w : Agrees b h) (v : Valid h) (r : Raw) (j : 
   effect-by : Sort h r → Effect (moveBy h r bal) (dataIn (r ∷ h) r) (named h r) (newNamed h r (named h r))
   effect-by (as-contribution k) =
       close stays (keptData kind.Contribution r (posted r) 0 0) missing data′.Unused (move-contribution h r bal k) (data-new ∙ (rw k refl)) (named-none h r (ap naming k)) refl
-      (rw (account-at, k) (contribution-effect r bal last (lookupOf b r) (namedAt b r .«data»)))
+      (rw (account-at, k) (ap Accepted (contribution-effect r bal last)))
   effect-by (as-bill k) =
       let s = accepts h r j .ranges in
       let n = accepts h r j .room in
       let x = billed (r .amount) (r .b) (r .a) in
       let small = billed-small (r .amount) (r .b) (r .a) (s .amount) (s .b) (s .a) in
       close (charges x) (keptData kind.Bill r (postedAs kind.Bill r) 0 0) missing data′.Unused (move-bill h r bal k) (data-new ∙ (rw k refl)) (named-none h r (ap naming k)) refl
-      (rw (account-at, k) (bill-effect r bal last (lookupOf b r) (namedAt b r .«data») (postedAs kind.Bill r) (s .amount) (omega (arith, s .b)) (omega (arith, bounded v (r .account) .arrears)) refl refl))
+      (rw (account-at, k) (ap Accepted (bill-effect r bal last (postedAs kind.Bill r) (s .amount) (omega (arith, s .b)) (omega (arith, bounded v (r .account) .arrears)) refl refl)))
   effect-by (as-payment k) =
       let s = accepts h r j .ranges in
       let n = accepts h r j .room in
       close (credits (r .amount)) (keptData kind.Payment r (postedAs kind.Payment r) 0 0) missing data′.Unused (move-payment h r bal k) (data-new ∙ (rw k refl)) (named-none h r (ap naming k)) refl
-      (rw (account-at, k) (payment-effect r bal last (lookupOf b r) (namedAt b r .«data») (postedAs kind.Payment r) (omega (arith, s .amount, bounded v (r .account) .credit)) refl refl))
+      (rw (account-at, k) (ap Accepted (payment-effect r bal last (postedAs kind.Payment r) (omega (arith, s .amount, bounded v (r .account) .credit)) refl refl)))
   effect-by (as-deposit k z a) =
       close (deposits (r .amount) (r .a) (r .day)) (keptData kind.Deposit r (posted r) 0 0) missing data′.Unused (move-deposit h r bal k) (data-new ∙ (rw k refl)) (named-none h r (ap naming k)) refl
-      (rw (account-at, k) (deposit-effect r bal last (lookupOf b r) (namedAt b r .«data»)))
+      (rw (account-at, k) (ap Accepted (deposit-effect r bal last)))
   effect-by (as-return k) =
       let bd = bounded v (r .account) in
       let day = accepts h r j .day in
       let small = interest-small (bal .deposit) (bal .rate) (r .day - bal .deposited) (bd .deposit) (bd .rate) (omega arith) in
       close (returns (interest (bal .deposit) (bal .rate) (r .day - bal .deposited))) (keptData kind.DepositReturn r (posted r) 0 0) missing data′.Unused (move-return h r bal k)
       (data-new ∙ (rw k refl)) (named-none h r (ap naming k)) refl
-      (rw (account-at, k) (return-effect r bal last (lookupOf b r) (namedAt b r .«data») (bd .deposit) (bd .rate) day (omega arith)))
+      (rw (account-at, k) (ap Accepted (return-effect r bal last (bd .deposit) (bd .rate) day (omega arith))))
   effect-by (as-added k i e f c d) =
       let x = refundOf r e (fate h e) in
       let in-h = hit v r i e f .member in
@@ -188,16 +197,16 @@ module _ {b : Book} {h : History} (w : Agrees b h) (v : Valid h) (r : Raw) (j : 
       close (refunds x) (keptData kind.AddedCustomer r (fate (r ∷ h) r) 0 0) (found i e)
       (keptData kind.Contribution e (change kind.AddedCustomer r e (fate h e)) (answered (refunds x) bal .settled + toArrears h e) (answered (refunds x) bal .paidOut + refundsPaid h e))
       (move-added h r bal i e f k) (rw k refl) (named-at h r bal i e f (ap naming k)) (named-added i e f k c)
-      (rw (data-at i e (ap naming k) f, account-at, lookup-at, named-at h r bal i e f (ap naming k), k, c)
-      (added-effect r bal last Nothing data′.Unused e (fate h e) i (toArrears h e) (refundsPaid h e) (fate (r ∷ h) r) small (accepts h r j .ranges .a)
-      (omega (arith, added-small h e)) (omega arith) (omega arith)))
+      (rw (account-at, lookup-at, named-at h r bal i e f (ap naming k), data-at i e f, k, c)
+      (ap Accepted (added-effect r bal last e (fate h e) i (toArrears h e) (refundsPaid h e) (fate (r ∷ h) r) small (accepts h r j .ranges .a)
+      (omega (arith, added-small h e)) (omega arith) (omega arith))))
   effect-by (as-expiry k i e f c o) =
       close (retains (fate h e .held)) (keptData kind.Expiry r (fate (r ∷ h) r) 0 0) (found i e)
       (keptData kind.Contribution e (change kind.Expiry r e (fate h e)) (toArrears h e) (refundsPaid h e))
       (move-expiry h r bal i e f k) (rw k refl) (named-at h r bal i e f (ap naming k))
       (named-other i e f (ap naming k) (ap (λ (l : Kind). sameOf l kind.AddedCustomer) k) ∙ (rw (k, c) refl))
-      (rw (data-at i e (ap naming k) f, account-at, lookup-at, named-at h r bal i e f (ap naming k), k, c)
-      (expiry-effect r bal last Nothing data′.Unused e (fate h e) i (toArrears h e) (refundsPaid h e) (fate (r ∷ h) r)))
+      (rw (account-at, lookup-at, named-at h r bal i e f (ap naming k), data-at i e f, k, c)
+      (ap Accepted (expiry-effect r bal last e (fate h e) i (toArrears h e) (refundsPaid h e) (fate (r ∷ h) r))))
   effect-by (as-correction k i e f bill c u) =
       let bd = bounded v (r .account) in
       let n = accepts h r j .room in
@@ -207,9 +216,9 @@ module _ {b : Book} {h : History} (w : Agrees b h) (v : Valid h) (r : Raw) (j : 
       (keptData (correctable bill) e (change kind.Correction r e (fate h e)) (toArrears h e) (refundsPaid h e))
       (move-correction h r bal i e f bill k c) (rw k refl) (named-at h r bal i e f (ap naming k))
       (named-other i e f (ap naming k) (ap (λ (l : Kind). sameOf l kind.AddedCustomer) k) ∙ (rw (k, c) refl))
-      (rw (data-at i e (ap naming k) f, account-at, lookup-at, named-at h r bal i e f (ap naming k), k, c)
-      (correction-effect r bal last Nothing data′.Unused e (fate h e) i (toArrears h e) (refundsPaid h e) (fate (r ∷ h) r) bill
-      (omega (arith, bd .arrears)) (omega (arith, bd .credit))))
+      (rw (account-at, lookup-at, named-at h r bal i e f (ap naming k), data-at i e f, k, c)
+      (ap Accepted (correction-effect r bal last e (fate h e) i (toArrears h e) (refundsPaid h e) (fate (r ∷ h) r) bill
+      (omega (arith, bd .arrears)) (omega (arith, bd .credit)))))
 
   abbrev theChange : Change
   theChange = changeBy (moveBy h r bal) bal last (dataIn (r ∷ h) r) (placeOf (named h r)) (newNamed h r (named h r))
@@ -224,7 +233,10 @@ module _ {b : Book} {h : History} (w : Agrees b h) (v : Valid h) (r : Raw) (j : 
   room : length h < length (b .entries)
   room = omega (arith, accepts h r j .room, w .entries-long)
 
-  rows-stored : Role h r → Rows (r ∷ h) (rewritten (placeOf (named h r)) (withOf (namedAt b r) (newNamed h r (named h r))) es₁) (r ∷ h)
+  abbrev es₂ : List Entry
+  es₂ = rewritten (b .entries) (placeOf (named h r)) (newNamed h r (named h r)) es₁
+
+  rows-stored : Role h r → Rows (r ∷ h) es₂ (r ∷ h)
   rows-stored (alone k) =
       rw (named-none h r k)
       (more (getD-set-same (b .entries) (length h) (keptEntry (r ∷ h) h r) noEntry room)
@@ -234,35 +246,35 @@ module _ {b : Book} {h : History} (w : Agrees b h) (v : Valid h) (r : Raw) (j : 
       let apart : i ≡ length h → ⊥ = λ q. omega arith in
       let apart′ : length h ≡ i → ⊥ = λ q. omega arith in
       let long : i < length es₁ = rw length-set (omega (arith, room)) in
-      let same : namedAt b r ≡ getD es₁ i noEntry = entry-at i e k f ∙ sym (getD-set-other (b .entries) (length h) i (keptEntry (r ∷ h) h r) noEntry apart) in
+      let same : getD (b .entries) i noEntry ≡ getD es₁ i noEntry = sym (getD-set-other (b .entries) (length h) i (keptEntry (r ∷ h) h r) noEntry apart) in
       rw (named-at h r bal i e f k, same)
       (more
       (getD-set-other es₁ i (length h) (withOf (getD es₁ i noEntry) (dataIn (r ∷ h) e)) noEntry apart′ ∙
       getD-set-same (b .entries) (length h) (keptEntry (r ∷ h) h r) noEntry room)
       (rows-hit r h es₁ i e long (hits v r i e k f) (rows-past (w .rows) (length h) (keptEntry (r ∷ h) h r) (omega arith))))
 
-  unused-stored : Role h r → (n : ℕ) → length h + 1 ≤ n → getD (rewritten (placeOf (named h r)) (withOf (namedAt b r) (newNamed h r (named h r))) es₁) n noEntry ≡ noEntry
+  unused-stored : Role h r → (n : ℕ) → length h + 1 ≤ n → getD es₂ n noEntry ≡ noEntry
   unused-stored o n l = go o
     where
       before : getD es₁ n noEntry ≡ noEntry
       before = getD-set-other (b .entries) (length h) n (keptEntry (r ∷ h) h r) noEntry (λ q. omega arith) ∙ w .unused n (omega arith)
 
-      go : Role h r → getD (rewritten (placeOf (named h r)) (withOf (namedAt b r) (newNamed h r (named h r))) es₁) n noEntry ≡ noEntry
+      go : Role h r → getD es₂ n noEntry ≡ noEntry
       go (alone k) = rw (named-none h r k) before
       go (upon k i e f) =
           let inside = hit v r i e f .inside in
-          rw (named-at h r bal i e f k) (getD-set-other es₁ i n (withOf (namedAt b r) (dataIn (r ∷ h) e)) noEntry (λ q. omega arith) ∙ before)
+          rw (named-at h r bal i e f k) (getD-set-other es₁ i n (withOf (getD (b .entries) i noEntry) (dataIn (r ∷ h) e)) noEntry (λ q. omega arith) ∙ before)
 
   abbrev next : Book
-  next = storedOf b r (namedAt b r) theChange
+  next = storedOf b r theChange
 
-  entries-after : next .entries ≡ rewritten (placeOf (named h r)) (withOf (namedAt b r) (newNamed h r (named h r))) es₁
+  entries-after : next .entries ≡ es₂
   unfolding storedOf
   entries-after = rw (account-at, w .counted) refl
 
-  long-rewritten : (f : Found) (x : Entry) (es : List Entry) → length (rewritten f x es) ≡ length es
-  long-rewritten Nothing x es = refl
-  long-rewritten (At i) x es = length-set es i x
+  long-rewritten : (es : List Entry) (f : Found) (d : Data) (next : List Entry) → length (rewritten es f d next) ≡ length next
+  long-rewritten es Nothing d next = refl
+  long-rewritten es (At i) d next = length-set next i (withOf (getD es i noEntry) d)
 
   -- its accounts
   account-new : keptAccount (moved (moveBy h r bal) bal) (length h + 1) ≡ keptAccount (balance (r ∷ h) (r .account)) (newestOf (r ∷ h) (r .account))
@@ -357,7 +369,7 @@ module _ (b : Book) (h : History) (w : Kept b h) (r : Raw) where
   unfolding postOf offer bookAfter
   posts = go (judge h r) refl
     where
-      go : (n : ℕ) → judge h r ≡ n → Kept (bookAfter b r (namedAt b r) (decisionOf b r)) (joined n r h)
+      go : (n : ℕ) → judge h r ≡ n → Kept (bookAfter b r (decisionOf b r)) (joined n r h)
       go zero j = rw (decision (w .agrees) (w .valid) r j) (record { agrees = agree-step (w .agrees) (w .valid) r j; valid = joins (w .valid) j })
       go (suc n) j = rw (decision-refused (w .agrees) (w .valid) r n j .1) w
 

@@ -17,7 +17,7 @@ number-of : (n k : ℕ) (x : Amounts) → repliedBy n k x .refusal ≡ n
 number-of zero k x = refl
 number-of (suc n) k x = refl
 
-replied-number : (h : History) (r : Raw) → repliedOf h r .refusal ≡ judge h r
+pub replied-number : (h : History) (r : Raw) → repliedOf h r .refusal ≡ judge h r
 unfolding repliedOf
 replied-number h r = number-of (judge h r) _ _
 

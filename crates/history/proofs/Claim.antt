@@ -1,37 +1,19 @@
 -- Demand 3, from the step over lists of calls.
-use Prim.Native.Nat.{ℕ, _+_, _*_, min}
 use mathlib.Core.Path.{_≡_, refl, ap, ap₂}
-use native.Mathlib.Omega.{arith}
-use mathlib.Core.Bool.{Bool, true, false, cond}
 use mathlib.Core.List.{List, [], _∷_, foldl}
-use lib.ListN.{length}
-use lib.Dec.{ltb}
 use Rattle.rules.specs.declared.accounts.Account.{Account}
 use Rattle.book.specs.Fresh.{freshBook}
 use Rattle.book.specs.declared.Book.{Book}
 use Rattle.queries.specs.Chain as chains
-use Rattle.image.specs.Saves.{refusedSave, acceptedSave, saveOf}
 use Rattle.history.specs.History.{History, along, heldOf}
 use Rattle.history.specs.Agreement.{Kept}
-use Rattle.history.specs.Calls.{Call, posting, carryOver, statement, contribution, save, posted, carried, stated, given, saved, callOffers, saveIn, answerIn, historyOf}
+use Rattle.history.specs.Calls.{Call, posting, carryOver, statement, contribution, save, posted, carried, stated, given, callOffers, answerIn, historyOf}
 use Rattle.history.specs.Claim.{callBook, callAnswer, bookAfter, bookOf, Demand3}
-use Rattle.history.proofs.Accept.{fits}
 use Rattle.history.proofs.Lawful.{laws}
 use Rattle.history.proofs.Agree.{agreement}
 use Rattle.history.proofs.Carry.{carry-agreement}
+use Rattle.history.proofs.Records.{save-same, saved-same}
 use Rattle.history.proofs.Queries.{chain-reads, reads-total, held-read, statement-same, contribution-same}
-
-save-same : (b : Book) (h : History) → Kept b h → (buffer : List ℕ) → saved (saveOf b buffer .refusal) (saveOf b buffer .bytes) ≡ saveIn h buffer
-unfolding saveOf saveIn
-save-same b h w buffer = rw size (go (ltb (length buffer) (24 * (length h + 1))))
-  where
-    size : min (b .count) 1024 ≡ length h
-    size = omega (arith, w .agrees .counted, fits (w .valid))
-
-    go : (t : Bool) → saved (cond t (refusedSave 21) (acceptedSave (24 * (length h + 1))) .refusal) (cond t (refusedSave 21) (acceptedSave (24 * (length h + 1))) .bytes) ≡
-        cond t (saved 21 0) (saved 0 (24 * (length h + 1)))
-    go true = refl
-    go false = refl
 
 keeps-call : (b : Book) (h : History) → Kept b h → (c : Call) → Kept (callBook b c) (callOffers h c)
 unfolding callBook callOffers
@@ -47,9 +29,9 @@ answer-same b h w (posting r) = ap posted (agreement .replied b h w r)
 answer-same b h w (carryOver rs results) = ap₂ carried (carry-agreement .refused rs results) (carry-agreement .results b h w rs results)
 answer-same b h w (statement account allowance) = ap stated (statement-same w account allowance)
 answer-same b h w (contribution account node serial) = ap given (contribution-same w account node serial)
-answer-same b h w (save buffer) = save-same b h w buffer
+answer-same b h w (save buffer) = rw (save-same b h w buffer, saved-same b h w buffer) refl
 
-keeps-calls : (b : Book) (h : History) → Kept b h → (cs : List Call) → Kept (bookAfter b cs) (foldl callOffers h cs)
+pub keeps-calls : (b : Book) (h : History) → Kept b h → (cs : List Call) → Kept (bookAfter b cs) (foldl callOffers h cs)
 keeps-calls b h w [] = w
 keeps-calls b h w (c ∷ cs) = keeps-calls (callBook b c) (callOffers h c) (keeps-call b h w c) cs
 

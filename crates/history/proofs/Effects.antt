@@ -16,7 +16,7 @@ use Rattle.rules.specs.Moves.{settles, leaves, covers, owes}
 use Rattle.rules.specs.Formulas.{billed, interest}
 use Rattle.rules.specs.Accounts.{accountOf, creditedOf, keptOf, chargedOf, holdingOf}
 use Rattle.rules.specs.Answers.{amountsOf}
-use Rattle.rules.specs.Changes.{changeOf, contributionOf, addedCustomerOf, billOf, paymentOf, depositOf, depositReturnOf, expiryOf, correctionOf, effectOf}
+use Rattle.rules.specs.Changes.{changeOf, contributionOf, addedCustomerOf, billOf, paymentOf, depositOf, depositReturnOf, expiryOf, correctionOf, ownChangeOf, namingChangeOf}
 use Rattle.rules.specs.declared.accounts.Credited.{Credited}
 use Rattle.rules.specs.declared.answers.Amounts as four′
 use Rattle.rules.specs.declared.changes.Found.{Found}
@@ -93,37 +93,36 @@ module _ (b : Balance) (newest : ℕ) where
       (λ q. rw (both-credit (y - x) (x - y) (omega arith) (omega arith) (omega arith), settled-some (y - x) (x - y) (omega arith) (omega arith)) refl)
 
 -- EFFECTS, KIND BY KIND
-module _ (r : Raw) (b : Balance) (newest : ℕ) (f : Found) (d : Data) where
-  pub contribution-effect : effectOf r kind.Contribution (keptAccount b newest) f d ≡
-      Accepted (changeBy stays b newest (keptData kind.Contribution r (posted r) 0 0) Nothing data′.Unused)
-  unfolding effectOf contributionOf
+module _ (r : Raw) (b : Balance) (newest : ℕ) where
+  pub contribution-effect : ownChangeOf r kind.Contribution (keptAccount b newest) ≡
+      changeBy stays b newest (keptData kind.Contribution r (posted r) 0 0) Nothing data′.Unused
+  unfolding ownChangeOf contributionOf
   contribution-effect = refl
 
   pub bill-effect : (g : Fate) → r .amount ≤ amountMost → r .b ≤ 255 → b .arrears + billed (r .amount) (r .b) (r .a) ≤ most →
       g .standing ≡ billed (r .amount) (r .b) (r .a) → g .corrected ≡ false →
-      effectOf r kind.Bill (keptAccount b newest) f d ≡
-      Accepted (changeBy (charges (billed (r .amount) (r .b) (r .a))) b newest (keptData kind.Bill r g 0 0) Nothing data′.Unused)
-  unfolding effectOf billOf
+      ownChangeOf r kind.Bill (keptAccount b newest) ≡
+      changeBy (charges (billed (r .amount) (r .b) (r .a))) b newest (keptData kind.Bill r g 0 0) Nothing data′.Unused
+  unfolding ownChangeOf billOf
   bill-effect g p q l s c =
       rw (plain .bill (r .amount) (r .b) (r .a) p q, charged-plain b newest (billed (r .amount) (r .b) (r .a)) l, s, c) refl
 
   pub payment-effect : (g : Fate) → b .credit + r .amount ≤ most → g .standing ≡ r .amount → g .corrected ≡ false →
-      effectOf r kind.Payment (keptAccount b newest) f d ≡
-      Accepted (changeBy (credits (r .amount)) b newest (keptData kind.Payment r g 0 0) Nothing data′.Unused)
-  unfolding effectOf paymentOf creditedOf
+      ownChangeOf r kind.Payment (keptAccount b newest) ≡
+      changeBy (credits (r .amount)) b newest (keptData kind.Payment r g 0 0) Nothing data′.Unused
+  unfolding ownChangeOf paymentOf creditedOf
   payment-effect g l s c = rw (kept-plain b newest (r .amount) l, s, c) refl
 
-  pub deposit-effect : effectOf r kind.Deposit (keptAccount b newest) f d ≡
-      Accepted (changeBy (deposits (r .amount) (r .a) (r .day)) b newest (keptData kind.Deposit r (posted r) 0 0) Nothing data′.Unused)
-  unfolding effectOf depositOf holdingOf
+  pub deposit-effect : ownChangeOf r kind.Deposit (keptAccount b newest) ≡
+      changeBy (deposits (r .amount) (r .a) (r .day)) b newest (keptData kind.Deposit r (posted r) 0 0) Nothing data′.Unused
+  unfolding ownChangeOf depositOf holdingOf
   deposit-effect = refl
 
   pub return-effect : b .deposit ≤ amountMost → b .rate ≤ 2000 → r .day ≤ 36524 →
       b .deposit + interest (b .deposit) (b .rate) (r .day - b .deposited) ≤ most →
-      effectOf r kind.DepositReturn (keptAccount b newest) f d ≡
-      Accepted
-      (changeBy (returns (interest (b .deposit) (b .rate) (r .day - b .deposited))) b newest (keptData kind.DepositReturn r (posted r) 0 0) Nothing data′.Unused)
-  unfolding effectOf depositReturnOf creditedOf holdingOf
+      ownChangeOf r kind.DepositReturn (keptAccount b newest) ≡
+      changeBy (returns (interest (b .deposit) (b .rate) (r .day - b .deposited))) b newest (keptData kind.DepositReturn r (posted r) 0 0) Nothing data′.Unused
+  unfolding ownChangeOf depositReturnOf creditedOf holdingOf
   return-effect p q t l =
       rw (
         plain .deposit-return (b .deposit) (b .rate) (r .day - b .deposited) p q (omega arith),
@@ -133,11 +132,10 @@ module _ (r : Raw) (b : Balance) (newest : ℕ) (f : Found) (d : Data) where
   module _ (e : Raw) (g : Fate) (i s p : ℕ) where
     pub added-effect : (g′ : Fate) → e .amount ≤ amountMost → r .a ≤ 65535 → g .added < 65535 →
         settles (refundOf r e g) (b .arrears) + s ≤ most → leaves (refundOf r e g) (b .arrears) + p ≤ most →
-        effectOf r kind.AddedCustomer (keptAccount b newest) (At i) (keptData kind.Contribution e g s p) ≡
-        Accepted
-        (changeBy (refunds (refundOf r e g)) b newest (keptData kind.AddedCustomer r g′ 0 0) (At i)
-        (keptData kind.Contribution e (change kind.AddedCustomer r e g) (settles (refundOf r e g) (b .arrears) + s) (leaves (refundOf r e g) (b .arrears) + p)))
-    unfolding effectOf addedCustomerOf creditedOf refundedOf namedOf
+        namingChangeOf r kind.AddedCustomer (keptAccount b newest) i (keptData kind.Contribution e g s p) ≡
+        changeBy (refunds (refundOf r e g)) b newest (keptData kind.AddedCustomer r g′ 0 0) (At i)
+        (keptData kind.Contribution e (change kind.AddedCustomer r e g) (settles (refundOf r e g) (b .arrears) + s) (leaves (refundOf r e g) (b .arrears) + p))
+    unfolding namingChangeOf addedCustomerOf creditedOf refundedOf namedOf
     added-effect g′ m a n x y =
         let one-more : min (g .added + 1) 65535 ≡ g .added + 1 = min-eq-left (omega arith) in
         let to : min (s + settles (refundOf r e g) (b .arrears)) most ≡ settles (refundOf r e g) (b .arrears) + s = omega arith in
@@ -145,17 +143,15 @@ module _ (r : Raw) (b : Balance) (newest : ℕ) (f : Found) (d : Data) where
         rw (plain .added-customer (namedOf (keptData kind.Contribution e g s p)) (metres (r .a)) m a, to, out, one-more) refl
 
     pub expiry-effect : (g′ : Fate) →
-        effectOf r kind.Expiry (keptAccount b newest) (At i) (keptData kind.Contribution e g s p) ≡
-        Accepted
-        (changeBy (retains (g .held)) b newest (keptData kind.Expiry r g′ 0 0) (At i) (keptData kind.Contribution e (change kind.Expiry r e g) s p))
-    unfolding effectOf expiryOf expiredOf namedOf
+        namingChangeOf r kind.Expiry (keptAccount b newest) i (keptData kind.Contribution e g s p) ≡
+        changeBy (retains (g .held)) b newest (keptData kind.Expiry r g′ 0 0) (At i) (keptData kind.Contribution e (change kind.Expiry r e g) s p)
+    unfolding namingChangeOf expiryOf expiredOf namedOf
     expiry-effect g′ = refl
 
     pub correction-effect : (g′ : Fate) (bill : Bool) → b .arrears + g .standing + r .amount ≤ most → b .credit + g .standing + r .amount ≤ most →
-        effectOf r kind.Correction (keptAccount b newest) (At i) (keptData (correctable bill) e g s p) ≡
-        Accepted
-        (changeBy (corrects bill (g .standing) (r .amount)) b newest (keptData kind.Correction r g′ 0 0) (At i)
-        (keptData (correctable bill) e (change kind.Correction r e g) s p))
-    unfolding effectOf correctionOf restatedOf namedOf
-    correction-effect g′ true l m = ap Accepted (restated b newest (g .standing) (r .amount) _ _ _ (omega arith) (omega arith))
-    correction-effect g′ false l m = ap Accepted (restated b newest (r .amount) (g .standing) _ _ _ (omega arith) (omega arith))
+        namingChangeOf r kind.Correction (keptAccount b newest) i (keptData (correctable bill) e g s p) ≡
+        changeBy (corrects bill (g .standing) (r .amount)) b newest (keptData kind.Correction r g′ 0 0) (At i)
+        (keptData (correctable bill) e (change kind.Correction r e g) s p)
+    unfolding namingChangeOf correctionOf restatedOf namedOf
+    correction-effect g′ true l m = restated b newest (g .standing) (r .amount) _ _ _ (omega arith) (omega arith)
+    correction-effect g′ false l m = restated b newest (r .amount) (g .standing) _ _ _ (omega arith) (omega arith)

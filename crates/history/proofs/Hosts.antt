@@ -1,150 +1,173 @@
--- Demand 3 for hosts: the book of an image agrees with the history of its records.
-use Prim.Native.Nat.{ℕ, zero, suc}
-use mathlib.Core.Path.{_≡_, refl, ap, _∙_}
+-- Demand 3 for hosts: the image between two calls is that of a history, and loads as the book that keeps it.
+use Prim.Native.Nat.{ℕ, zero, suc, _/_}
+use mathlib.Core.Path.{_≡_, refl, sym, ap, ap₂, _∙_}
 use mathlib.Core.Bool.{Bool, true, false, cond}
-use mathlib.Core.List.{List, [], _∷_, _++_, map, map-append, foldl-append}
+use mathlib.Core.List.{List, [], _∷_, _++_, foldl}
 use native.Mathlib.Omega.{arith}
-use lib.ListN.{length}
-use lib.Dec.{eqb, ltb}
-use borrow.Author.Tests.{eq-eqb}
+use lib.ListN.{length, take, drop}
+use lib.Seq.{take-at}
+use lib.Dec.{eqb}
+use borrow.Author.Tests.{eqb-true, eqb-false}
 use Rattle.entries.specs.declared.raw.Raw.{Raw}
-use Rattle.codec.specs.Bytes.{Bytes}
-use Rattle.book.specs.Fresh.{freshBook}
-use Rattle.book.specs.Posting.{postOf, postsOf}
+use Rattle.codec.specs.Headers.{headerOf}
 use Rattle.book.specs.declared.Book.{Book}
-use Rattle.image.specs.Saves.{recordsOf, imageOf, refusedSave, acceptedSave, bytesOf, saveOf}
-use Rattle.image.specs.Loads.{loadOf, recordsIn}
-use Rattle.image.specs.Rounds.{AllTyped, rawIn}
-use Rattle.image.proofs.Step.{Good, post-step}
-use Rattle.image.proofs.Trips.{good-fresh, posting, posted-records, loaded-faultless, loaded-posts, loaded-typed, trips}
+use Rattle.contribution_book.specs.Order.{firstRefusal}
 use Rattle.contribution_book.specs.Posts.{PostOutcome, entryIn, postRefusal, postInto, postImage}
-use Rattle.contribution_book.specs.Carries.{CarryOutcome, runOf, nextOf, carryRefusal, carryInto, carryImage}
-use Rattle.contribution_book.proofs.Trips.{post-typed, run-typed, host-trips}
-use Rattle.contribution_book.specs.Reads.{statementGiven, statementImage, contributionGiven, contributionImage}
-use Rattle.history.specs.History.{History, judge, joined, offer, offers}
-use Rattle.history.specs.Laws.{Valid, empty, joins}
+use Rattle.contribution_book.specs.Carries.{CarryOutcome, runOf, carryRefusal, carryInto, carryImage}
+use Rattle.contribution_book.specs.Reads.{statementImage, contributionImage}
+use Rattle.history.specs.History.{History, along, judge, joined, offer, offers}
+use Rattle.history.specs.Laws.{Valid, empty}
+use Rattle.history.specs.Images.{recordsBy, imageIn, bytesIn, shortIn, roomIn, savedBy, AllTyped}
 use Rattle.history.specs.Agreement.{Kept}
-use Rattle.history.specs.Hosts.{historyIn, bytesIn, roomIn, postRefusalIn, postIn, carryRefusalIn, carryIn, resultsIn, Demand3Hosts}
-use Rattle.history.proofs.Accept.{fits}
-use Rattle.history.proofs.Lawful.{laws}
+use Rattle.history.specs.Trips.{historyIn}
+use Rattle.history.specs.Hosts.{HostCall, check, posting, carryOver, statement, contribution, hostAnswer, wrote, imageAfter, hostImage, freshImage, postRefusalIn, postIn, carryRefusalIn, carryIn, hostAnswerIn, hostOffers, Lent, AllLent, Hosted, Demand3Hosts}
 use Rattle.history.proofs.Agree.{agreement}
-use Rattle.history.proofs.Carry.{number-same, keeps-all, carry-agreement}
+use Rattle.history.proofs.Lawful.{valid-offers, laws}
+use Rattle.history.proofs.Carry.{replied-number, keeps-all, carry-agreement}
 use Rattle.history.proofs.Queries.{statement-same, contribution-same}
+use Rattle.history.proofs.Records.{bytes-same, save-same, saved-same}
+use Rattle.history.proofs.Trips.{length-image, loads, image-loads, image-again, image-typed, decoded-typed, loaded-kept}
 
--- the image of a book has the history's length
-bytes-same : (b : Book) (h : History) → Kept b h → bytesOf b ≡ bytesIn h
-bytes-same b h w = omega (arith, w .agrees .counted, fits (w .valid))
-
-room-same : (b : Book) (h : History) → Kept b h → (output : List ℕ) → saveOf b output .refusal ≡ roomIn h output
-unfolding saveOf
-room-same b h w output = rw (bytes-same b h w) (by (ltb (length output) (bytesIn h)))
-  where
-    by : (t : Bool) → cond t (refusedSave 21) (acceptedSave (bytesIn h)) .refusal ≡ cond t 21 0
-    by true = refl
-    by false = refl
-
-pick : {A B : Type 0} (f : A → B) (t : Bool) (x y : A) → f (cond t x y) ≡ cond t (f x) (f y)
-pick f true x y = refl
-pick f false x y = refl
+-- ---- what a call gives, on the book that keeps a history
 
 module _ (b : Book) (h : History) (w : Kept b h) where
-  module _ (entry output : List ℕ) where
-    next : Kept (postOf b (entryIn entry) .book) (offer h (entryIn entry))
-    next = agreement .posted b h w (entryIn entry)
+  post-same : (entry output : List ℕ) → postInto b entry output ≡ postIn h entry output
+  unfolding postInto postIn postRefusal
+  post-same entry output =
+      let next = agreement .posted b h w (entryIn entry) in
+      rw (agreement .replied b h w (entryIn entry), replied-number h (entryIn entry), save-same _ _ next output, bytes-same _ _ next, saved-same _ _ next output) refl
 
-    post-refusal : postRefusal b entry output ≡ postRefusalIn h entry output
-    unfolding postRefusal postRefusalIn
-    post-refusal = rw (number-same b h w (entryIn entry), room-same _ _ next output) refl
+  carry-same : (run results output : List ℕ) → carryInto b run results output ≡ carryIn h run results output
+  unfolding carryInto carryIn carryRefusal
+  carry-same run results output =
+      let next = keeps-all b h w (runOf run) in
+      rw (carry-agreement .refused (runOf run) results, save-same _ _ next output, bytes-same _ _ next, saved-same _ _ next output, carry-agreement .results b h w (runOf run) results) refl
 
-    post-same : postInto b entry output .given ≡ postIn h entry output
-    unfolding postInto postIn
-    post-same =
-        pick (λ (o : PostOutcome). o .given) (eqb (postRefusal b entry output) 0) _ _ ∙
-        rw (post-refusal, bytes-same _ _ next, agreement .replied b h w (entryIn entry)) refl
-
-  module _ (run results output : List ℕ) where
-    after : Kept (nextOf b run) (offers h (runOf run))
-    after = keeps-all b h w (runOf run)
-
-    carry-refusal : carryRefusal b run results output ≡ carryRefusalIn h run results output
-    unfolding carryRefusal carryRefusalIn
-    carry-refusal = rw (carry-agreement .refused (runOf run) results, room-same _ _ after output) refl
-
-    carry-same : carryInto b run results output .given ≡ carryIn h run results output
-    unfolding carryInto carryIn
-    carry-same =
-        pick (λ (o : CarryOutcome). o .given) (eqb (carryRefusal b run results output) 0) _ _ ∙
-        rw (carry-refusal, bytes-same _ _ after) refl
-
-    results-same : carryInto b run results output .results ≡ resultsIn h run results output
-    unfolding carryInto resultsIn
-    results-same =
-        pick (λ (o : CarryOutcome). o .results) (eqb (carryRefusal b run results output) 0) _ _ ∙
-        rw (carry-refusal, carry-agreement .results b h w (runOf run) results) refl
-
--- ---- the image that a call writes
-
--- the entries of a history, oldest first
-unfoldable recorded : History → List Raw
-recorded [] = []
-recorded (r ∷ h) = recorded h ++ r ∷ []
-
--- offered in turn they give it again
-again : {h : History} → Valid h → offers [] (recorded h) ≡ h
-unfolding recorded offer
-again empty = refl
-again (joins {r} {h} v j) = foldl-append offer [] (recorded h) (r ∷ []) ∙ ap (λ (x : History). offer x r) (again v) ∙ rw j refl
-
--- the book's records are the history's
-abbrev Recorded : Book → History → Type 0
-Recorded b h = map rawIn (recordsOf b (b .count)) ≡ recorded h
-
-records-step : (b : Book) (h : History) → Kept b h → Good b → Recorded b h → (r : Raw) → Recorded (postOf b r .book) (offer h r)
-unfolding recorded offer
-records-step b h w g e r = by (judge h r) (number-same b h w r)
+answer-same : {h : History} → Valid h → AllTyped h → (c : HostCall) → hostAnswer (imageIn h) c ≡ hostAnswerIn h c
+unfolding hostAnswer hostAnswerIn postImage carryImage statementImage contributionImage
+answer-same {h} v t c = go c
   where
-    by : (n : ℕ) → postOf b r .reply .refusal ≡ n → Recorded (postOf b r .book) (joined n r h)
-    by zero p =
-        ap (map rawIn) (post-step b r g p .records) ∙ map-append rawIn (recordsOf b (b .count)) _ ∙ ap (λ (x : List Raw). x ++ r ∷ []) e
-    by (suc n) p =
-        let same : postOf b r .book ≡ b = posting (λ (q : Book). q ≡ b) b r refl (λ z. absurd (omega arith)) in
-        rw same e
+    b : Book
+    b = loads v .book
 
-records-all : (rs : List Raw) (b : Book) (h : History) → Kept b h → Good b → Recorded b h → Recorded (postsOf b rs) (offers h rs)
-unfolding postsOf
-records-all [] b h w g e = e
-records-all (r ∷ rs) b h w g e =
-    records-all rs (postOf b r .book) (offer h r) (agreement .posted b h w r) (posting Good b r g (λ z. post-step b r g z .good)) (records-step b h w g e r)
+    w : Kept b h
+    w = loads v .kept
 
-fresh-recorded : Recorded freshBook []
-unfolding freshBook recorded
-fresh-recorded = refl
+    go : (c : HostCall) → hostAnswer (imageIn h) c ≡ hostAnswerIn h c
+    go check = rw (image-loads v t, w .agrees .counted) refl
+    go (posting entry output) = rw (image-loads v t, post-same b h w entry output) refl
+    go (carryOver run results output) = rw (image-loads v t, carry-same b h w run results output) refl
+    go (statement account allowance) = rw (image-loads v t, statement-same w account allowance) refl
+    go (contribution account node serial) = rw (image-loads v t, contribution-same w account node serial) refl
 
--- after a list of postings to a loaded book
-next-history : (l : List ℕ) → Bytes l → loadOf l .refusal ≡ 0 → (rs : List Raw) → AllTyped rs →
-    historyIn (imageOf (postsOf (loadOf l .book) rs)) ≡ offers (historyIn l) rs
-next-history l h e rs t =
-    let all = map rawIn (recordsIn l) ++ rs in
-    let w : Kept (postsOf freshBook all) (offers [] all) = keeps-all freshBook [] (agreement .fresh) all in
-    let records = ap (map rawIn) (posted-records all (loaded-typed l h e rs t)) ∙ records-all all freshBook [] (agreement .fresh) good-fresh fresh-recorded in
-    rw (loaded-posts l e rs, records, again (w .valid)) (foldl-append offer [] (map rawIn (recordsIn l)) rs)
+-- ---- the image that it imageAfter
+
+-- where no refusal stands first, there is none
+abbrev Zeros : List ℕ → Type 0
+Zeros [] = Unit {0}
+Zeros (n ∷ ns) = (n ≡ 0) × Zeros ns
+
+none : (ns : List ℕ) → firstRefusal ns ≡ 0 → Zeros ns
+unfolding firstRefusal
+none [] e = tt
+none (n ∷ ns) e = by (eqb n 0) refl (none ns) e
+  where
+    by : (t : Bool) → eqb n 0 ≡ t → (firstRefusal ns ≡ 0 → Zeros ns) → cond t (firstRefusal ns) n ≡ 0 → Zeros (n ∷ ns)
+    by true p more z = (eqb-true n 0 p, more z)
+    by false p more z = absurd (eqb-false n 0 p z)
+
+front : (h : History) (output : List ℕ) → roomIn h output ≡ 0 → take (bytesIn h) (savedBy h output) ≡ imageIn h
+unfolding savedBy
+front h output e = by (shortIn h output) e
+  where
+    by : (t : Bool) → _≡_ {A = ℕ} (cond t 21 0) 0 → take (bytesIn h) (cond t output (imageIn h ++ drop (bytesIn h) output)) ≡ imageIn h
+    by true z = absurd (omega arith)
+    by false z = take-at (imageIn h) (drop (bytesIn h) output) (bytesIn h) (length-image h)
+
+-- after a call of which n is the refusal, and a and r are what it gives accepted and refused
+after : {O : Type 0} (refusal bytes : O → ℕ) (output : O → List ℕ) (h next : History) (n : ℕ) (a r : O) →
+    (n ≡ 0 → (refusal a ≡ 0) × (take (bytes a) (output a) ≡ imageIn next)) → refusal r ≡ n →
+    wrote (imageIn h) (refusal (cond (eqb n 0) a r)) (bytes (cond (eqb n 0) a r)) (output (cond (eqb n 0) a r)) ≡ imageIn (cond (eqb n 0) next h)
+after refusal bytes output h next n a r accepted refused = by (eqb n 0) refl
+  where
+    by : (t : Bool) → eqb n 0 ≡ t → wrote (imageIn h) (refusal (cond t a r)) (bytes (cond t a r)) (output (cond t a r)) ≡ imageIn (cond t next h)
+    by true p = let z = accepted (eqb-true n 0 p) in rw (z .0) (z .1)
+    by false p = rw (refused, p) refl
+
+image-next : (h : History) (c : HostCall) → imageAfter (imageIn h) (hostAnswerIn h c) ≡ imageIn (hostOffers h c)
+unfolding imageAfter hostAnswerIn hostOffers postIn carryIn
+image-next h check = refl
+image-next h (posting entry output) =
+    after (λ (o : PostOutcome). o .given .refusal) (λ o. o .given .bytes) (λ o. o .output) h (offer h (entryIn entry)) (postRefusalIn h entry output) _ _
+    (λ e. let z = none _ e in (replied-number h (entryIn entry) ∙ z .1 .0, front _ output (z .1 .1 .0))) refl
+image-next h (carryOver run results output) =
+    after (λ (o : CarryOutcome). o .given .refusal) (λ o. o .given .bytes) (λ o. o .output) h (offers h (runOf run)) (carryRefusalIn h run results output) _ _
+    (λ e. (refl, front _ output (none _ e .1 .1 .0))) refl
+image-next h (statement account allowance) = refl
+image-next h (contribution account node serial) = refl
+
+-- ---- the history that it imageAfter
+
+abbrev Sound : History → Type 0
+Sound h = Valid h × AllTyped h
+
+typed-offers : (rs : List Raw) (h : History) → AllTyped rs → AllTyped h → AllTyped (offers h rs)
+unfolding offer
+typed-offers [] h t u = u
+typed-offers (r ∷ rs) h t u = typed-offers rs (offer h r) (t .1) (go (judge h r))
+  where
+    go : (n : ℕ) → AllTyped (joined n r h)
+    go zero = (t .0, u)
+    go (suc n) = u
+
+offered : (h : History) → Sound h → (t : Bool) (rs : List Raw) → AllTyped rs → Sound (cond t (offers h rs) h)
+offered h s true rs t = (valid-offers (s .0) rs, typed-offers rs h t (s .1))
+offered h s false rs t = s
+
+sound-next : (h : History) → Sound h → (c : HostCall) → Lent c → Sound (hostOffers h c)
+unfolding hostOffers runOf
+sound-next h s check g = s
+sound-next h s (posting entry output) g = offered h s (eqb (postRefusalIn h entry output) 0) (entryIn entry ∷ []) (decoded-typed 1 entry g)
+sound-next h s (carryOver run results output) g = offered h s (eqb (carryRefusalIn h run results output) 0) (runOf run) (decoded-typed (length run / 24) run g)
+sound-next h s (statement account allowance) g = s
+sound-next h s (contribution account node serial) g = s
+
+-- ---- lists of calls
+
+record Run (h : History) (cs : List HostCall) : Type 0 where
+  answered : along hostImage hostAnswer (imageIn h) cs ≡ along hostOffers hostAnswerIn h cs
+  image : foldl hostImage (imageIn h) cs ≡ imageIn (foldl hostOffers h cs)
+  sound : Sound (foldl hostOffers h cs)
+
+run-all : (cs : List HostCall) (h : History) → Sound h → AllLent cs → Run h cs
+run-all [] h s g = record { answered = refl; image = refl; sound = s }
+run-all (c ∷ cs) h s g =
+    let answer = answer-same (s .0) (s .1) c in
+    let next : hostImage (imageIn h) c ≡ imageIn (hostOffers h c) = ap (imageAfter (imageIn h)) answer ∙ image-next h c in
+    let rest = run-all cs (hostOffers h c) (sound-next h s c (g .0)) (g .1) in
+    record { answered = ap₂ (λ x xs. x ∷ xs) answer (rw next (rest .answered)); image = rw next (rest .image); sound = rest .sound }
+
+hosted : (l : List ℕ) (h : History) (cs : List HostCall) → l ≡ imageIn h → Sound h → AllLent cs → Hosted l h cs
+hosted l h cs e s g =
+    let r = run-all cs h s g in
+    let load = image-loads (r .sound .0) (r .sound .1) in
+    rw e
+    (record {
+      answered = r .answered;
+      image = r .image;
+      loads = rw (r .image, load) refl;
+      kept = rw (r .image, load) (loads (r .sound .0) .kept);
+      lawful = laws .lawful _ (r .sound .0);
+      bounded = laws .bounded _ (r .sound .0);
+    })
+
+fresh-image : freshImage ≡ imageIn []
+unfolding imageIn recordsBy headerOf
+fresh-image = refl
 
 pub demand3-hosts : Demand3Hosts
-unfolding postImage carryImage statementImage contributionImage postsOf
-demand3-hosts l e =
-    let w : Kept (loadOf l .book) (historyIn l) = rw (trips .loaded-posted l e) (keeps-all freshBook [] (agreement .fresh) (map rawIn (recordsIn l))) in
-    let loads = eq-eqb (loadOf l .refusal) 0 e in
+demand3-hosts =
     record {
-      lawful = laws .lawful (historyIn l) (w .valid);
-      bounded = laws .bounded (historyIn l) (w .valid);
-      checked = rw (e, loaded-faultless l e, w .agrees .counted) refl;
-      posted = λ entry output. rw loads (post-same (loadOf l .book) (historyIn l) w entry output);
-      carried = λ run results output. rw loads (carry-same (loadOf l .book) (historyIn l) w run results output);
-      results = λ run results output. rw loads (results-same (loadOf l .book) (historyIn l) w run results output);
-      stated = λ account allowance. rw loads (ap (λ r. statementGiven r 0) (statement-same w account allowance));
-      queried = λ account node serial. rw loads (ap (λ r. contributionGiven r 0) (contribution-same w account node serial));
-      post-next = λ entry output hl he o q n.
-          ap historyIn (host-trips .posted l entry output hl he o q n .image) ∙ next-history l hl e (entryIn entry ∷ []) (post-typed l entry output he o q n);
-      carry-next = λ run results output hl hr o q n.
-          ap historyIn (host-trips .carried l run results output hl hr o q n .image) ∙ next-history l hl e (runOf run) (run-typed run hr);
+      fresh = λ cs g. hosted freshImage [] cs fresh-image (empty, tt) g;
+      loaded = λ l h e cs g. hosted l (historyIn l) cs (sym (image-again l h e)) (loaded-kept l e .valid, image-typed l h) g;
     }

@@ -10,10 +10,11 @@ pub mod Stored
 pub mod Agree
 pub mod Determined
 pub mod Lawful
+pub mod Records
 pub mod Carry
 pub mod Queries
 pub mod Claim
-pub mod Hosts
 pub mod Trips
+pub mod Hosts
 pub mod Witness
 pub mod Cited

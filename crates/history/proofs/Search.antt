@@ -4,7 +4,7 @@ use Prim.Native.Nat.{ℕ, zero, suc, _+_, _-_, _≤_, _<_}
 use native.Mathlib.Omega.{arith}
 use mathlib.Core.Bool.{Bool, true, false, cond, _&&_}
 use mathlib.Core.List.{List, [], _∷_}
-use lib.ListN.{length, getD, take}
+use lib.ListN.{length, getD, take, drop}
 use lib.Dec.{eqb}
 use borrow.Author.Tests.{eqb-true, eqb-false, ne-eqb, le-ltb}
 use Rattle.entries.specs.Kinds.{kindOf, namesOf}
@@ -15,18 +15,19 @@ use Rattle.entries.specs.declared.kinds.Kind.{Kind}
 use Rattle.entries.specs.declared.kinds.Kind.the-variants as kind
 use Rattle.entries.specs.declared.data.Entry.{Entry}
 use Rattle.entries.proofs.Ranges.{inside}
+use Rattle.rules.specs.declared.accounts.Account.{Account}
 use Rattle.rules.specs.declared.changes.Found.{Found}
 use Rattle.rules.specs.declared.changes.Found.the-variants.{At, Nothing}
 use Rattle.book.specs.Serials.{lastOf}
-use Rattle.book.specs.Chain.{endsOf, startOf, findIn, entryAt}
-use Rattle.book.specs.Posting.{lookupOf, namedAt}
+use Rattle.book.specs.Chain.{endsOf, startOf, findIn, soughtIn}
+use Rattle.book.specs.Posting.{accountAt, lookupOf}
 use Rattle.book.specs.declared.Book.{Book}
 use Rattle.book.proofs.Chain.{findIn-none, findIn-ends, findIn-hit, findIn-miss}
 use Rattle.queries.specs.Chain.{chainOf}
-use Rattle.history.specs.History.{History, accounts, entries, lastSerial, naming, points, Sought, missing, found, find, named, Fate, posted, fate, asking, entryIn, fateIn}
-use Rattle.history.specs.Agreement.{newestOf, keptData, keptEntry, keptChain, Rows, start, more, Agrees}
-use Rattle.history.proofs.Accept.{no-kind}
-use Rattle.history.proofs.Tables.{Seen}
+use Rattle.history.specs.History.{History, accounts, entries, lastSerial, naming, points, Sought, missing, found, find, named, Fate, fate, entryIn, fateIn, Balance, balance, refusals}
+use Rattle.history.specs.Images.{newestOf}
+use Rattle.history.specs.Agreement.{keptAccount, keptData, keptEntry, keptChain, Rows, start, more, Agrees}
+use Rattle.history.proofs.Tables.{Seen, Same, rows, own-same, missing-same, naming-same}
 
 abbrev pub placeOf : Sought → Found
 placeOf missing = Nothing
@@ -156,14 +157,6 @@ pub record Alike (e : Entry) (x : Raw) (f : Fate) : Type 0 where
   pub on : e .day .0 ≡ x .day
   pub seen : Seen (namedOf (e .«data»)) (kindOf (x .kind)) x f
 
-alike-none : Alike noEntry (asking 0 0 0) (posted (asking 0 0 0))
-unfolding namedOf
-alike-none =
-    record {
-      on = refl;
-      seen = rw no-kind (record { of-kind = refl; closed = refl; corrected = refl; phases = refl; built = refl });
-    }
-
 alike-kept : (all g : History) (x : Raw) → Alike (keptEntry all g x) x (fate all x)
 unfolding entryOf
 alike-kept all g x = record { on = refl; seen = seen-data (kindOf (x .kind)) x (fate all x) _ _ }
@@ -180,18 +173,32 @@ module _ {b : Book} {h : History} (w : Agrees b h) (m : length h ≤ entries) wh
       go true = chain h (b .entries) r (w .rows) m 1024 m
       go false = findIn-ends (b .entries) r 0 (omega arith) ends-zero
 
-  alike-at : (c : Raw) (s : Sought) → find h c ≡ s → Alike (entryAt (b .entries) (placeOf s)) (entryIn s) (fateIn h s)
-  unfolding entryAt
-  alike-at c missing f = alike-none
-  alike-at c (found i e) f = let k = kept-found h (b .entries) (w .rows) c i e f in rw (k .1) (alike-kept h (k .0) e)
-
-  pub alike : (r : Raw) → between (r .account) 1 accounts ≡ true → Alike (namedAt b r) (entryIn (named h r)) (fateIn h (named h r))
-  unfolding named entryAt
-  alike r t = rw (lookup-same r t) (go (naming (kindOf (r .kind))))
+  -- what is left of the book's table after 1 to 7 is what is left of the history's
+  pub state-same : (r : Raw) → between (r .account) 1 accounts ≡ true → let k = kindOf (r .kind) in
+      Same (rows r k (accountAt b (r .account)) (namesOf k) (soughtIn (b .entries) (lookupOf b r)))
+      (drop 7 (refusals h r k (entryIn (named h r)) (fateIn h (named h r)) (balance h (r .account))))
+  unfolding named soughtIn
+  state-same r t =
+      let i = inside (r .account) 1 accounts t in
+      rw (w .account (r .account) (i .0) (i .1), lookup-same r t, names-same k) (go (naming k) refl (find h r) refl)
     where
-      go : (t : Bool) → Alike (entryAt (b .entries) (placeOf (cond t (find h r) missing))) (entryIn (cond t (find h r) missing)) (fateIn h (cond t (find h r) missing))
-      go true = alike-at r (find h r) refl
-      go false = alike-none
+      k : Kind
+      k = kindOf (r .kind)
+
+      bal : Balance
+      bal = balance h (r .account)
+
+      acc : Account
+      acc = keptAccount bal (newestOf h (r .account))
+
+      go : (n : Bool) → naming k ≡ n → (s : Sought) → find h r ≡ s →
+          Same (rows r k acc n (soughtIn (b .entries) (placeOf (cond n s missing)))) (drop 7 (refusals h r k (entryIn (cond n s missing)) (fateIn h (cond n s missing)) bal))
+      go false n s f = own-same h r k bal (newestOf h (r .account)) n
+      go true n missing f = missing-same h r k bal acc n
+      go true n (found i e) f =
+          let g = kept-found h (b .entries) (w .rows) r i e f in
+          let a : Alike (getD (b .entries) i noEntry) e (fate h e) = rw (g .1) (alike-kept h (g .0) e) in
+          naming-same h r k bal acc i (getD (b .entries) i noEntry) e (fate h e) n (a .on) (a .seen)
 
   pub last-same : (r : Raw) → between (r .node) 1 2 ≡ true → lastOf (b .last) (r .node) ≡ lastSerial h (r .node)
   unfolding lastOf

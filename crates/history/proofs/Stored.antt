@@ -13,7 +13,8 @@ use Rattle.entries.specs.declared.data.Entry.{Entry}
 use Rattle.entries.specs.declared.data.Data.{Data}
 use Rattle.book.specs.Chain.{slotOf}
 use Rattle.history.specs.History.{History, accounts, names, Amounts}
-use Rattle.history.specs.Agreement.{newestOf, dataIn, keptEntry, Rows, start, more}
+use Rattle.history.specs.Images.{newestOf}
+use Rattle.history.specs.Agreement.{dataIn, keptEntry, Rows, start, more}
 use Rattle.history.proofs.Names.{Misses, none, miss, Hits, first, later, fate-miss, customers-miss}
 
 -- an account's place

@@ -1,40 +1,188 @@
--- A list of calls leaves the book that the postings of its entries leave, so the round trips of postings are those of calls.
-use mathlib.Core.Path.{_≡_, refl, ap, _∙_}
+-- Round trips: a book and a history that agree determine each other, and the image is the history's.
+use Prim.Native.Nat.{ℕ, zero, suc, _+_, _≤_}
+use mathlib.Core.Path.{_≡_, refl, sym, ap, _∙_}
 use mathlib.Core.Bool.{Bool, true, false, cond}
-use mathlib.Core.List.{List, [], _∷_}
+use mathlib.Core.List.{List, [], _∷_, _++_, map, reverseAux, append-nil, append-assoc}
+use native.Mathlib.Omega.{arith}
+use lib.ListN.{length, drop, length-append, length-drop, take-append-drop}
+use lib.Seq.{drop-at}
+use lib.Dec.{eqb}
+use borrow.Author.Tests.{eqb-true, eqb-false}
+use Rattle.entries.specs.declared.raw.Raw.{Raw}
+use Rattle.rules.specs.declared.accounts.Account.{Account}
+use Rattle.codec.specs.Bytes.{Bytes}
+use Rattle.codec.specs.Records.{layout, InRange, AllInRange, encodeAll, decodeRecord, decodeAll}
+use Rattle.codec.specs.Headers.{headerOf, countIn}
+use Rattle.codec.specs.declared.Record.{Record}
+use Rattle.codec.proofs.Bytes.{bytes-drop}
+use Rattle.codec.proofs.Layouts.{fit-unpack}
+use Rattle.codec.proofs.Records.{length-encodeAll, length-decodeAll, decode-encode-all, encode-decode-all, in-range-append}
+use Rattle.codec.proofs.Headers.{length-header, count-header, header-passes, checked, header-again}
 use Rattle.book.specs.Fresh.{freshBook}
-use Rattle.book.specs.Posting.{postsOf}
+use Rattle.book.specs.Posting.{accountAt, postOf, postsOf}
 use Rattle.book.specs.declared.Book.{Book}
-use Rattle.book.proofs.Posting.{posts-append}
-use Rattle.image.specs.Loads.{loadOf}
-use Rattle.image.proofs.Trips.{trips}
-use Rattle.history.specs.History.{tooShort}
-use Rattle.carry.specs.Carry.{carryBookOf}
-use Rattle.history.specs.Calls.{Call, posting, carryOver, statement, contribution, save}
-use Rattle.history.specs.Claim.{callBook, bookAfter}
-use Rattle.history.specs.Trips.{offeredBy, offered, CallTrips}
+use Rattle.image.specs.Saves.{imageOf}
+use Rattle.image.specs.Loads.{LoadReply, rawIn, recordsIn, wholeOf, failedOf, stopOf, loadAll, loadOf}
+use Rattle.image.proofs.Loading.{load-begins, load-checked, stop-none, none-stops, load-more}
+use Rattle.history.specs.History.{History, entries, judge, offer}
+use Rattle.history.specs.Laws.{Valid, empty, joins}
+use Rattle.history.specs.Images.{newestOf, recordsBy, imageIn, bytesIn, Typed, AllTyped}
+use Rattle.history.specs.Agreement.{Kept}
+use Rattle.history.specs.Trips.{historyIn, Trips}
+use Rattle.history.proofs.Accept.{accepts, fits}
+use Rattle.history.proofs.Agree.{agreement}
+use Rattle.history.proofs.Determined.{determined}
+use Rattle.history.proofs.Records.{image-kept}
+use Rattle.history.proofs.Carry.{number-same}
+use Rattle.history.proofs.Claim.{keeps-calls}
 
-one-call : (b : Book) (c : Call) → callBook b c ≡ postsOf b (offeredBy c)
-unfolding callBook carryBookOf postsOf
-one-call b (posting r) = refl
-one-call b (carryOver rs results) = go (tooShort rs results)
-  where
-    go : (t : Bool) → cond t b (postsOf b rs) ≡ postsOf b (cond t [] rs)
-    go true = refl
-    go false = refl
-one-call b (statement account allowance) = refl
-one-call b (contribution account node serial) = refl
-one-call b (save buffer) = refl
+-- ---- one record
 
-all-calls : (b : Book) (cs : List Call) → bookAfter b cs ≡ postsOf b (offered cs)
-unfolding offered postsOf
-all-calls b [] = refl
-all-calls b (c ∷ cs) =
-    all-calls (callBook b c) cs ∙ ap (λ (x : Book). postsOf x (offered cs)) (one-call b c) ∙ posts-append b (offeredBy c) (offered cs)
+module _ {b : Book} {h : History} (w : Kept b h) (r : Raw) (j : judge h r ≡ 0) where
+  kept-joined : Kept (postOf b r .book) (r ∷ h)
+  unfolding offer
+  kept-joined = rw j at (agreement .posted b h w r)
 
-pub call-trips : CallTrips
-call-trips =
+  newest-kept : accountAt b (r .account) .newest ≡ newestOf h (r .account)
+  newest-kept = let p = accepts h r j in ap (λ (x : Account). x .newest) (w .agrees .account (r .account) (p .account-low) (p .account-high))
+
+-- ---- the image of a history loads
+
+-- the book that keeps a history, by its records
+pub record Loads (h : History) : Type 0 where
+  pub book : Book
+  pub kept : Kept book h
+  pub again : loadAll (recordsBy h) freshBook 1 ≡ wholeOf book
+
+pub loads : {h : History} → Valid h → Loads h
+unfolding recordsBy loadAll
+loads empty = record { book = freshBook; kept = agreement .fresh; again = refl }
+loads (joins {r} {h} v j) =
+    let p = loads v in
     record {
-      saved-loads = λ cs t. rw (all-calls freshBook cs) (trips .saved-loads (offered cs) t);
-      loaded-on = λ l h e cs t. rw (all-calls (loadOf l .book) cs) (trips .loaded-on l h e (offered cs) t);
+      book = postOf (p .book) r .book;
+      kept = kept-joined (p .kept) r j;
+      again = load-more (recordsBy h) _ freshBook (p .book) 1 (p .again) (rw (newest-kept (p .kept) r j) at (none-stops (p .book) r (number-same (p .book) h (p .kept) r ∙ j)));
+    }
+
+length-records : (h : History) → length (recordsBy h) ≡ length h
+unfolding recordsBy
+length-records [] = refl
+length-records (r ∷ h) = omega (arith, length-append (recordsBy h) (record { raw = r; next = newestOf h (r .account) } ∷ []), length-records h)
+
+newest-most : (h : History) (a : ℕ) → newestOf h a ≤ length h
+unfolding newestOf
+newest-most [] a = omega arith
+newest-most (r ∷ h) a = go (eqb (r .account) a) (newest-most h a)
+  where
+    go : (t : Bool) → newestOf h a ≤ length h → cond t (length h + 1) (newestOf h a) ≤ suc (length h)
+    go true older = omega arith
+    go false older = omega arith
+
+-- every record fits its fields
+in-range : (h : History) → AllTyped h → length h ≤ entries → AllInRange (recordsBy h)
+unfolding recordsBy
+in-range [] t l = tt
+in-range (r ∷ h) t l = in-range-append (recordsBy h) _ (in-range h (t .1) (omega arith)) (one (t .0), tt)
+  where
+    one : Typed r → InRange (record { raw = r; next = newestOf h (r .account) })
+    one f = omega (arith, newest-most h (r .account))
+
+pub length-image : (h : History) → length (imageIn h) ≡ bytesIn h
+unfolding imageIn
+length-image h = omega (arith, length-append (headerOf (length h)) (encodeAll (recordsBy h)), length-header (length h), length-encodeAll (recordsBy h), length-records h)
+
+pub image-loads : {h : History} (v : Valid h) → AllTyped h → loadOf (imageIn h) ≡ wholeOf (loads v .book)
+unfolding imageIn
+image-loads {h} v t =
+    let n = fits v in
+    let rest : List ℕ = encodeAll (recordsBy h) in
+    let passes = header-passes (length h) rest n (length-image h) in
+    let count : countIn (headerOf (length h) ++ rest) ≡ length h = count-header (length h) rest (omega arith) in
+    let body : drop 24 (headerOf (length h) ++ rest) ≡ rest = drop-at (headerOf (length h)) rest 24 (length-header (length h)) in
+    let all : decodeAll (length h) rest ≡ recordsBy h = rw (length-records h) at (decode-encode-all (recordsBy h) (in-range h t n)) in
+    load-begins (headerOf (length h) ++ rest) passes ∙ rw (count, body, all) (loads v .again)
+
+-- as the book that keeps it
+pub saved : (b : Book) (h : History) → Kept b h → AllTyped h → loadOf (imageOf b) ≡ wholeOf b
+saved b h w t =
+    ap loadOf (image-kept b h w) ∙ image-loads (w .valid) t ∙ ap wholeOf (determined (loads (w .valid) .book) b h (loads (w .valid) .kept) w)
+
+-- ---- an image that loads is its history's
+
+-- what records that load make of a book and its history
+record Extends (b : Book) (h : History) (rs : List Record) (i : ℕ) : Type 0 where
+  whole : loadAll rs b i ≡ wholeOf (postsOf b (map rawIn rs))
+  kept : Kept (postsOf b (map rawIn rs)) (reverseAux (map rawIn rs) h)
+  records : recordsBy (reverseAux (map rawIn rs) h) ≡ recordsBy h ++ rs
+
+extend : (rs : List Record) (b : Book) (h : History) (i : ℕ) → Kept b h → loadAll rs b i .refusal ≡ 0 → Extends b h rs i
+unfolding loadAll postsOf recordsBy
+extend [] b h i w e = record { whole = refl; kept = w; records = sym (append-nil (recordsBy h)) }
+extend (r ∷ rs) b h i w e = by (eqb (stopOf b r) 0) refl (extend rs next (rawIn r ∷ h) (i + 1)) e
+  where
+    next : Book
+    next = postOf b (r .raw) .book
+
+    by : (t : Bool) → eqb (stopOf b r) 0 ≡ t → (Kept next (rawIn r ∷ h) → loadAll rs next (i + 1) .refusal ≡ 0 → Extends next (rawIn r ∷ h) rs (i + 1)) →
+        cond t (loadAll rs next (i + 1)) (failedOf (stopOf b r) i) .refusal ≡ 0 → Extends b h (r ∷ rs) i
+    by false p more z = absurd (eqb-false _ 0 p z)
+    by true p more z =
+        let none = stop-none b r (eqb-true (stopOf b r) 0 p) in
+        let j : judge h (rawIn r) ≡ 0 = sym (number-same b h w (rawIn r)) ∙ none .0 in
+        let next : r .next ≡ newestOf h (rawIn r .account) = none .1 ∙ newest-kept w (rawIn r) j in
+        let rest = more (kept-joined w (rawIn r) j) z in
+        record {
+          whole = rw p (rest .whole);
+          kept = rest .kept;
+          records = rest .records ∙ rw (← next) (append-assoc (recordsBy h) (r ∷ []) rs);
+        }
+
+loaded : (l : List ℕ) → loadOf l .refusal ≡ 0 → Extends freshBook [] (recordsIn l) 1
+loaded l e =
+    extend (recordsIn l) freshBook [] 1 (agreement .fresh) (ap (λ (q : LoadReply). q .refusal) (sym (load-begins l (load-checked l e))) ∙ e)
+
+loaded-posted : (l : List ℕ) → loadOf l .refusal ≡ 0 → loadOf l ≡ wholeOf (postsOf freshBook (map rawIn (recordsIn l)))
+loaded-posted l e = load-begins l (load-checked l e) ∙ loaded l e .whole
+
+pub loaded-kept : (l : List ℕ) → loadOf l .refusal ≡ 0 → Kept (loadOf l .book) (historyIn l)
+loaded-kept l e = rw (loaded-posted l e) (loaded l e .kept)
+
+pub image-again : (l : List ℕ) → Bytes l → loadOf l .refusal ≡ 0 → imageIn (historyIn l) ≡ l
+unfolding imageIn recordsBy
+image-again l h e =
+    let c = checked l (load-checked l e) in
+    let sized = c .sized in
+    let records : recordsBy (historyIn l) ≡ recordsIn l = loaded l e .records in
+    let count : length (historyIn l) ≡ countIn l =
+    sym (length-records (historyIn l)) ∙ ap (λ (q : List Record). length q) records ∙ length-decodeAll (countIn l) (drop 24 l) in
+    let body : encodeAll (recordsIn l) ≡ drop 24 l = encode-decode-all (countIn l) (drop 24 l) (simp length-drop (omega arith)) (bytes-drop 24 l h) in
+    rw (records, body, count, header-again l c h) (take-append-drop 24 l)
+
+-- ---- what bytes hold is typed
+
+raw-typed : (r : Record) → InRange r → Typed (rawIn r)
+raw-typed r f = omega arith
+
+pub decoded-typed : (n : ℕ) (l : List ℕ) → Bytes l → AllTyped (map rawIn (decodeAll n l))
+unfolding decodeRecord
+decoded-typed zero l h = tt
+decoded-typed (suc n) l h = (raw-typed (decodeRecord l) (fit-unpack layout l h), decoded-typed n (drop 24 l) (bytes-drop 24 l h))
+
+reverse-typed : (rs : List Raw) (h : History) → AllTyped rs → AllTyped h → AllTyped (reverseAux rs h)
+reverse-typed [] h t u = u
+reverse-typed (r ∷ rs) h t u = reverse-typed rs (r ∷ h) (t .1) (t .0, u)
+
+pub image-typed : (l : List ℕ) → Bytes l → AllTyped (historyIn l)
+image-typed l h = reverse-typed (map rawIn (recordsIn l)) [] (decoded-typed (countIn l) (drop 24 l) (bytes-drop 24 l h)) tt
+
+pub trips : Trips
+trips =
+    record {
+      image = image-kept;
+      saved-loads = λ cs t. saved _ _ (keeps-calls freshBook [] (agreement .fresh) cs) t;
+      loaded-saves = λ l h e. image-kept _ _ (loaded-kept l e) ∙ image-again l h e;
+      loaded-posted = loaded-posted;
+      loaded-kept = loaded-kept;
+      loaded-on = λ l e cs t. saved _ _ (keeps-calls (loadOf l .book) (historyIn l) (loaded-kept l e) cs) t;
     }

@@ -1,5 +1,5 @@
 -- A book and a history that agree, and that they agree after every entry offered.
-use Prim.Native.Nat.{ℕ, _+_, _≤_}
+use Prim.Native.Nat.{ℕ, _≤_}
 use mathlib.Core.Path.{_≡_}
 use mathlib.Core.Bool.{cond}
 use mathlib.Core.List.{List, [], _∷_}
@@ -23,11 +23,7 @@ use Rattle.book.specs.declared.Book.{Book}
 use Rattle.queries.specs.Chain.{chainAt}
 use Rattle.history.specs.History.{History, lastSerial, Fate, fate, Balance, balance, accounts, entries, toArrears, refundsPaid, offer, repliedOf}
 use Rattle.history.specs.Laws.{Valid}
-
--- the number of an account's newest entry, 0 where it has none
-unfoldable pub newestOf : History → ℕ → ℕ
-newestOf [] account = 0
-newestOf (r ∷ h) account = cond (eqb (r .account) account) (length h + 1) (newestOf h account)
+use Rattle.history.specs.Images.{newestOf}
 
 -- an account's amounts as the book keeps them
 abbrev pub keptAccount : Balance → ℕ → Account

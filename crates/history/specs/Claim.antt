@@ -9,7 +9,7 @@ use Rattle.queries.specs.Chain.{chainAt, totalOf}
 use Rattle.queries.specs.Chain as chains
 use Rattle.queries.specs.Statement.{statementOf}
 use Rattle.queries.specs.Contribution.{contributionQueryOf}
-use Rattle.image.specs.Saves.{saveOf}
+use Rattle.image.specs.Saves.{saveOf, savedIn}
 use Rattle.history.specs.History.{accounts, along, balance, entriesOf, total, heldOf}
 use Rattle.history.specs.Laws.{Lawful, Bounded}
 use Rattle.history.specs.Agreement.{Kept}
@@ -29,7 +29,7 @@ callAnswer b (posting r) = posted (postOf b r .reply)
 callAnswer b (carryOver rs results) = carried (carryRefusalOf rs results) (carryResultsOf b rs results)
 callAnswer b (statement account allowance) = stated (statementOf b account allowance)
 callAnswer b (contribution account node serial) = given (contributionQueryOf b account node serial)
-callAnswer b (save buffer) = saved (saveOf b buffer .refusal) (saveOf b buffer .bytes)
+callAnswer b (save buffer) = saved (saveOf b buffer .refusal) (saveOf b buffer .bytes) (savedIn b buffer)
 
 abbrev pub bookAfter : Book → List Call → Book
 bookAfter b cs = foldl callBook b cs
@@ -44,7 +44,7 @@ answersOf cs = along callBook callAnswer freshBook cs
 pub record Right (cs : List Call) : Type 0 where
   -- Every answer in the list is the history's at that point: an offered entry's refusal number is 0 exactly when it joins; which
   -- calls are refused, which statements are complete and an accepted posting's four amounts; and what every accepted statement,
-  -- contribution query and save gives.
+  -- contribution query and save gives, a save's buffer among it.
   pub answered : answersOf cs ≡ answersIn cs
   -- the book after the list has the history's arrears
   pub arrears : (a : ℕ) → 1 ≤ a → a ≤ accounts → accountAt (bookOf cs) a .arrears .0 ≡ balance (historyOf cs) a .arrears

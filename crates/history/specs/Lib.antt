@@ -1,10 +1,11 @@
 pub mod History
 pub mod Laws
+pub mod Images
 pub mod Agreement
 pub mod Carry
 pub mod Queries
 pub mod Calls
 pub mod Claim
-pub mod Hosts
 pub mod Trips
+pub mod Hosts
 pub mod Witness

@@ -1,33 +1,34 @@
--- Round trips for every list of calls.
+-- Round trips, for every list of calls and for every image that loads.
 use mathlib.Core.Path.{_≡_}
-use mathlib.Core.Bool.{cond}
-use mathlib.Core.List.{List, [], _∷_, _++_}
+use mathlib.Core.List.{List, map, reverse}
 use Prim.Native.Nat.{ℕ}
-use Rattle.entries.specs.declared.raw.Raw.{Raw}
 use Rattle.codec.specs.Bytes.{Bytes}
+use Rattle.book.specs.Fresh.{freshBook}
+use Rattle.book.specs.Posting.{postsOf}
+use Rattle.book.specs.declared.Book.{Book}
 use Rattle.image.specs.Saves.{imageOf}
-use Rattle.image.specs.Loads.{loadOf, wholeOf}
-use Rattle.image.specs.Rounds.{AllTyped}
-use Rattle.history.specs.History.{tooShort}
-use Rattle.history.specs.Calls.{Call, posting, carryOver, statement, contribution, save}
+use Rattle.image.specs.Loads.{rawIn, recordsIn, wholeOf, loadOf}
+use Rattle.history.specs.History.{History}
+use Rattle.history.specs.Images.{AllTyped, imageIn}
+use Rattle.history.specs.Agreement.{Kept}
+use Rattle.history.specs.Calls.{Call, historyAfter, historyOf}
 use Rattle.history.specs.Claim.{bookAfter, bookOf}
 
--- the entries that a call offers
-abbrev pub offeredBy : Call → List Raw
-offeredBy (posting r) = r ∷ []
-offeredBy (carryOver rs results) = cond (tooShort rs results) [] rs
-offeredBy (statement account allowance) = []
-offeredBy (contribution account node serial) = []
-offeredBy (save buffer) = []
+-- the history of an image: the entries of its records, newest first
+abbrev pub historyIn : List ℕ → History
+historyIn l = reverse (map rawIn (recordsIn l))
 
-unfoldable pub offered : List Call → List Raw
-offered [] = []
-offered (c ∷ cs) = offeredBy c ++ offered cs
-
--- proofs/Trips.antt shows it. Of the entries offered it asks what every value of the type satisfies.
-pub record CallTrips : Type 0 where
-  -- the book that a list of calls leaves loads from its image as the same book
-  pub saved-loads : (cs : List Call) → AllTyped (offered cs) → loadOf (imageOf (bookOf cs)) ≡ wholeOf (bookOf cs)
-  -- and so does one that was loaded and then posted to
-  pub loaded-on : (l : List ℕ) → Bytes l → loadOf l .refusal ≡ 0 → (cs : List Call) → AllTyped (offered cs) →
+-- proofs/Trips.antt shows it. Of the bytes of an image and of the entries that joined it asks what every value of their type satisfies.
+pub record Trips : Type 0 where
+  -- the image of a book is that of the history that it keeps
+  pub image : (b : Book) (h : History) → Kept b h → imageOf b ≡ imageIn h
+  -- the book that a list of calls leaves loads from its image as the same book, whole
+  pub saved-loads : (cs : List Call) → AllTyped (historyOf cs) → loadOf (imageOf (bookOf cs)) ≡ wholeOf (bookOf cs)
+  -- an image that loads is that of the loaded book: it saves as the same bytes
+  pub loaded-saves : (l : List ℕ) → Bytes l → loadOf l .refusal ≡ 0 → imageOf (loadOf l .book) ≡ l
+  -- a load that is not refused gives the book that the postings of its records leave, and that book keeps their history
+  pub loaded-posted : (l : List ℕ) → loadOf l .refusal ≡ 0 → loadOf l ≡ wholeOf (postsOf freshBook (map rawIn (recordsIn l)))
+  pub loaded-kept : (l : List ℕ) → loadOf l .refusal ≡ 0 → Kept (loadOf l .book) (historyIn l)
+  -- a book that was loaded and on which calls were made loads from its image as the same book, whole
+  pub loaded-on : (l : List ℕ) → loadOf l .refusal ≡ 0 → (cs : List Call) → AllTyped (historyAfter (historyIn l) cs) →
       loadOf (imageOf (bookAfter (loadOf l .book) cs)) ≡ wholeOf (bookAfter (loadOf l .book) cs)

@@ -8,7 +8,7 @@ use native.Mathlib.Omega.{arith}
 use lib.ListN.{length, take, drop, set, length-set, length-drop}
 use lib.Seq.{drop-drop, take-all}
 use lib.Dec.{eqb}
-use borrow.Author.Tests.{eq-eqb, ne-eqb, eqb-true}
+use borrow.Author.Tests.{ne-eqb, eqb-true}
 use Rattle.entries.specs.Entries.{oneMore}
 use Rattle.entries.specs.Refusals.{refusalNumber, ruleOf}
 use Rattle.entries.specs.declared.raw.Raw.{Raw}
@@ -25,14 +25,13 @@ use Rattle.codec.specs.Records.{decodeRecord, recordIn, decodeAll}
 use Rattle.codec.specs.Headers.{countIn, checkOf}
 use Rattle.codec.specs.declared.Record.{Record}
 use Rattle.codec.proofs.Headers.{checked}
-use Rattle.book.specs.Fresh.{freshBook}
-use Rattle.book.specs.Posting.{accountAt, decisionOf, postOf}
+use Rattle.book.specs.Fresh.{entriesMost, freshBook}
+use Rattle.book.specs.Posting.{accountAt, storedOf, bookAfter, decisionOf, postOf}
 use Rattle.book.specs.declared.Book.{Book}
-use Rattle.image.specs.Loads.{LoadReply, wholeOf, failedOf, stopOf, loadAll, loadOf}
+use Rattle.book.proofs.Posting.{room}
+use Rattle.image.specs.Loads.{wholeOf, failedOf, stopOf, loadAll, loadOf}
 use Rattle.image.specs.Replays.{Replayed, listedIn, endOf, replayOf}
-use Rattle.image.proofs.Loading.{load-begins}
-use Rattle.image.proofs.Step.{Good, post-step}
-use Rattle.image.proofs.Trips.{good-fresh, stop-none}
+use Rattle.image.proofs.Loading.{load-begins, stop-none}
 
 -- ---- what ends an image
 
@@ -136,8 +135,18 @@ replay-end image b s l i e = let z : length s / 24 - i ≡ 0 = omega arith in rw
 
 -- ---- a load
 
+-- an accepted entry found room, and counts one up
+post-counts : (b : Book) (r : Raw) → postOf b r .reply .refusal ≡ 0 → (b .count < entriesMost) × (postOf b r .book .count ≡ b .count + 1)
+unfolding postOf bookAfter storedOf answerOf replyOf
+post-counts b r = go (decisionOf b r) refl
+  where
+    go : (o : Outcome) → decisionOf b r ≡ o → replyOf (answerOf o (b .count + 1)) .refusal ≡ 0 →
+        (b .count < entriesMost) × (bookAfter b r o .count ≡ b .count + 1)
+    go (Refused n) d e = absurd (omega (arith, refusal-above n))
+    go (Accepted c) d e = (room b r c d, refl)
+
 -- the records of an image
-replay-records : (rs : List Record) (b : Book) (l : List ℕ) (i : ℕ) → Good b → replayOf true rs b l i .loaded ≡ loadAll rs b (b .count + 1)
+replay-records : (rs : List Record) (b : Book) (l : List ℕ) (i : ℕ) → b .count ≤ entriesMost → replayOf true rs b l i .loaded ≡ loadAll rs b (b .count + 1)
 unfolding replayOf loadAll
 replay-records [] b l i g = refl
 replay-records (r ∷ rs) b l i g =
@@ -152,13 +161,13 @@ replay-records (r ∷ rs) b l i g =
     rest : Replayed
     rest = replayOf true rs next results (i + 1)
 
-    by : (t : Bool) → eqb (stopOf b r) 0 ≡ t → (Good next → rest .loaded ≡ loadAll rs next (next .count + 1)) →
+    by : (t : Bool) → eqb (stopOf b r) 0 ≡ t → (next .count ≤ entriesMost → rest .loaded ≡ loadAll rs next (next .count + 1)) →
         cond (not t) (record { loaded = failedOf (stopOf b r) (oneMore (b .count)); results = results }) rest .loaded ≡
         cond t (loadAll rs next (b .count + 1 + 1)) (failedOf (stopOf b r) (b .count + 1))
     by true p again =
-        let step = post-step b (r .raw) g (stop-none b r (eqb-true (stopOf b r) 0 p) .0) in
-        again (step .good) ∙ ap (λ n. loadAll rs next (n + 1)) (step .counted)
-    by false p again = let h = g .few in ap (failedOf (stopOf b r)) (min-eq-left (omega arith))
+        let step = post-counts b (r .raw) (stop-none b r (eqb-true (stopOf b r) 0 p) .0) in
+        again (omega arith) ∙ ap (λ n. loadAll rs next (n + 1)) (step .1)
+    by false p again = ap (failedOf (stopOf b r)) (min-eq-left (omega arith))
 
 -- of an image that passes the checks, what stands behind the header
 pub replay-loads : (s l : List ℕ) (b : Book) → checkOf s ≡ check.Passed → b ≡ freshBook →
@@ -168,5 +177,5 @@ replay-loads s l b e fresh =
     let sized = checked s e .sized in
     let whole = take-all (length s - 24) (drop 24 s) (simp length-drop (omega arith)) in
     let n : length (drop 24 s) / 24 ≡ countIn s = simp length-drop (omega arith) in
-    rw (whole, fresh) (replay-records (listedIn (drop 24 s)) freshBook l 0 good-fresh) ∙
+    rw (whole, fresh) (replay-records (listedIn (drop 24 s)) freshBook l 0 (omega arith)) ∙
     ap (λ n. loadAll (decodeAll n (drop 24 s)) freshBook 1) n ∙ sym (load-begins s e)

@@ -1,7 +1,7 @@
 -- Laws of a save, by the turns of its loop.
 use Prim.Native.Nat.{ℕ, _+_, _*_, _≤_, _<_}
-use mathlib.Core.Path.{_≡_, _∙_}
-use mathlib.Core.Bool.{false}
+use mathlib.Core.Path.{_≡_, refl, ap, _∙_}
+use mathlib.Core.Bool.{Bool, true, false, cond}
 use mathlib.Core.List.{List, [], _∷_, _++_, map-append, append-nil}
 use native.Mathlib.Omega.{arith}
 use native.Mathlib.Numerals.{add-one}
@@ -18,7 +18,7 @@ use Rattle.codec.proofs.Records.{encode-append, length-encodeAll}
 use Rattle.codec.proofs.Headers.{length-header}
 use Rattle.book.specs.Fresh.{entriesMost}
 use Rattle.book.specs.declared.Book.{Book}
-use Rattle.image.specs.Saves.{written, recordOf, sizeOf, recordsOf, bytesOf, imageOf, refusedSave, acceptedSave, saveOf, savedIn}
+use Rattle.image.specs.Saves.{SaveReply, written, recordOf, sizeOf, recordsOf, bytesOf, imageOf, refusedSave, acceptedSave, saveOf, savedIn}
 use Rattle.image.proofs.Written.{written-append}
 
 pub length-records : (b : Book) (n : ℕ) → n ≤ length (b .entries) → length (recordsOf b n) ≡ n
@@ -58,3 +58,22 @@ save-done b l p m n k e h ep em =
     let big : ltb (length l) (bytesOf b) ≡ false = le-ltb (length l) (bytesOf b) (omega arith) in
     let len : 0 + length (imageOf b) ≡ bytesOf b = omega (arith, length-image b k) in
     (rw (big, e), rw (big, em, ep, e, written-append l 0 (headerOf (sizeOf b)) (encodeAll (recordsOf b (sizeOf b))) 24 (omega arith) (omega (arith, length-header (sizeOf b))), len))
+
+-- ---- what a save's answer tells
+
+pub save-size : (b : Book) (l : List ℕ) (n : ℕ) → acceptedSave n ≡ saveOf b l → n ≡ bytesOf b
+unfolding saveOf
+save-size b l n e = by (ltb (length l) (bytesOf b)) e
+  where
+    by : (t : Bool) → acceptedSave n ≡ cond t (refusedSave (refusalNumber no.BufferShort)) (acceptedSave (bytesOf b)) → n ≡ bytesOf b
+    by true h = let z : _≡_ {A = ℕ} 0 21 = ap (λ (q : SaveReply). q .refusal) h in absurd (omega arith)
+    by false h = ap (λ (q : SaveReply). q .bytes) h
+
+pub save-short : (b : Book) (l : List ℕ) (k : ℕ) → 0 < k → refusedSave k ≡ saveOf b l → ltb (length l) (bytesOf b) ≡ true
+unfolding saveOf
+save-short b l k above e = by (ltb (length l) (bytesOf b)) refl e
+  where
+    by : (t : Bool) → ltb (length l) (bytesOf b) ≡ t →
+        refusedSave k ≡ cond t (refusedSave (refusalNumber no.BufferShort)) (acceptedSave (bytesOf b)) → ltb (length l) (bytesOf b) ≡ true
+    by true p h = p
+    by false p h = let z : k ≡ 0 = ap (λ (q : SaveReply). q .refusal) h in absurd (omega arith)

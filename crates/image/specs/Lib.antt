@@ -2,4 +2,3 @@ pub mod Raws
 pub mod Saves
 pub mod Loads
 pub mod Replays
-pub mod Rounds

@@ -5,6 +5,7 @@ use mathlib.Core.List.{List, [], _∷_}
 use lib.ListN.{drop}
 use lib.Dec.{eqb}
 use Rattle.entries.specs.Refusals.{refusalNumber}
+use Rattle.entries.specs.declared.raw.Raw.{Raw}
 use Rattle.entries.specs.declared.refusals.Refusal.the-variants as no
 use Rattle.entries.specs.declared.refusals.Check.{Check}
 use Rattle.entries.specs.declared.refusals.Check.the-variants as check
@@ -52,6 +53,9 @@ stopOf b r =
 unfoldable pub loadAll : List Record → Book → ℕ → LoadReply
 loadAll [] b i = wholeOf b
 loadAll (r ∷ rs) b i = cond (eqb (stopOf b r) 0) (loadAll rs (postOf b (r .raw) .book) (i + 1)) (failedOf (stopOf b r) i)
+
+abbrev pub rawIn : Record → Raw
+rawIn r = r .raw
 
 -- the records of an image
 abbrev pub recordsIn : List ℕ → List Record

@@ -1,14 +1,11 @@
 // The image of a book: saved into a lent buffer, and loaded from lent bytes.
 mod loads;
-mod rounds;
 mod saves;
 
 pub use loads::LoadAnswer;
 pub use loads::Loaded;
 pub use loads::load;
 pub use loads::replay;
-pub use rounds::reload;
-pub use rounds::resave;
 pub use saves::Saved;
 pub use saves::save;
 pub use saves::size;

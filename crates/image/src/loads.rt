@@ -29,7 +29,7 @@ pub struct Loaded {
 }
 
 // A refused load gives a fresh book.
-pub fn failed(refusal: Refusal, record: u16) -> Loaded
+fn failed(refusal: Refusal, record: u16) -> Loaded
     ensures { λ r. ⌜ loadedReply r ≡ failedOf (refusalNumber refusal) «record» ⌝ }
 {
     Loaded {

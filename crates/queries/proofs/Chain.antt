@@ -1,16 +1,14 @@
 -- Laws of the chain as a list: it goes link by link, and a named entry is found on it.
 use Prim.Native.Nat.{ℕ, zero, suc, _-_, _<_, _≤_}
-use mathlib.Core.Path.{_≡_, refl, sym, _∙_}
+use mathlib.Core.Path.{_≡_, refl}
 use mathlib.Core.Bool.{Bool, true, false, cond}
 use mathlib.Core.List.{List, [], _∷_}
 use native.Mathlib.Numerals.{sub-one}
 use native.Mathlib.Omega.{arith}
 use lib.ListN.{length, getD}
-use Rattle.entries.specs.Entries.{noEntry, pointsAt}
-use Rattle.entries.specs.declared.raw.Raw.{Raw}
+use Rattle.entries.specs.Entries.{noEntry}
 use Rattle.entries.specs.declared.data.Entry.{Entry}
-use Rattle.rules.specs.declared.changes.Found.the-variants.{At, Nothing}
-use Rattle.book.specs.Chain.{endsOf, findIn, entryAt}
+use Rattle.book.specs.Chain.{endsOf}
 use Rattle.queries.specs.Chain.{chainOf, carries, soughtOf}
 
 pub chain-none : (es : List Entry) (at : ℕ) → chainOf es 0 at ≡ []
@@ -51,21 +49,3 @@ pub sought-miss : (node serial : ℕ) (e : Entry) (es : List Entry) → carries 
     soughtOf node serial (e ∷ es) ≡ soughtOf node serial es
 unfolding soughtOf
 sought-miss node serial e es h = simp h
-
--- what a posting's search finds is what is sought on the chain
-pub sought-found : (fuel : ℕ) (es : List Entry) (r : Raw) (at : ℕ) →
-    entryAt es (findIn es r fuel at) ≡ soughtOf (r .«named_node») (r .«named_serial») (chainOf es fuel at)
-unfolding entryAt findIn soughtOf chainOf carries pointsAt
-sought-found zero es r at = refl
-sought-found (suc fuel) es r at =
-    go (endsOf at) (pointsAt r (getD es (at - 1) noEntry)) refl (sought-found fuel es r (getD es (at - 1) noEntry .next))
-  where
-    go : (s t : Bool) → carries (r .«named_node») (r .«named_serial») (getD es (at - 1) noEntry) ≡ t →
-        entryAt es (findIn es r fuel (getD es (at - 1) noEntry .next)) ≡
-        soughtOf (r .«named_node») (r .«named_serial») (chainOf es fuel (getD es (at - 1) noEntry .next)) →
-        entryAt es (cond s Nothing (cond t (At (at - 1)) (findIn es r fuel (getD es (at - 1) noEntry .next)))) ≡
-        soughtOf (r .«named_node») (r .«named_serial»)
-        (cond s [] (getD es (at - 1) noEntry ∷ chainOf es fuel (getD es (at - 1) noEntry .next)))
-    go true t q h = refl
-    go false true q h = sym (sought-hit _ _ _ (chainOf es fuel (getD es (at - 1) noEntry .next)) q)
-    go false false q h = h ∙ sym (sought-miss _ _ _ (chainOf es fuel (getD es (at - 1) noEntry .next)) q)

@@ -4,10 +4,9 @@ use mathlib.Core.Bool.{false, not, _&&_}
 use mathlib.Core.Path.{_≡_, refl, sym, ap, _∙_}
 use native.Mathlib.Nat.{min-eq-left}
 use native.Mathlib.Omega.{arith}
-use lib.ListN.{length, getD, length-set}
+use lib.ListN.{length, getD, set, length-set}
 use lib.Dec.{eqb}
 use denote.Ref.{now}
-use Rattle.entries.specs.Entries.{noEntry, withOf}
 use Rattle.entries.specs.Refusals.{refusalNumber}
 use Rattle.entries.proofs.Numbers.{refusal-above}
 use Rattle.rules.specs.Accounts.{noAccount}
@@ -15,10 +14,10 @@ use Rattle.rules.specs.Changes.{outcomeNumber}
 use Rattle.rules.specs.declared.changes.Outcome.the-variants.{Accepted}
 use Rattle.codec.specs.Records.{recordIn}
 use Rattle.book.specs.Fresh.{entriesMost}
-use Rattle.book.specs.Posting.{accountAt, namedAt, lookupOf, decisionOf, postOf}
+use Rattle.book.specs.Posting.{accountAt, lookupOf, decisionOf, postOf}
 use Rattle.book.proofs.Chain.{slot-inside}
 use Rattle.book.proofs.Searches.{findsOf, place-inside, begins, nearer, past, decided, rewrites}
-use Rattle.book.proofs.Posting.{room, names-inside, post-refused, post-accepted}
+use Rattle.book.proofs.Posting.{room, names-inside, post-refused, rewrites-at, post-accepted}
 use Rattle.image.specs.Loads.{loadedReply, stopOf}
 use Rattle.image.specs.Replays.{listedIn, endOf, replayOf}
 use Rattle.image.proofs.Replays.{end-refused, end-passed, outcome-number, record-part, restOf, rest-start, replay-less, replay-step, replay-stop, replay-end}
@@ -80,7 +79,7 @@ next-number c =
 inside : (c : tie.After-names Inv-loop2 μ-loop2 Inv-loop μ-loop) → c .names .given .0 .0 < entriesMost
 inside c = names-inside (c .before .before .before .before .before .before .before .before .before .before .before .before .before .before .before .before .before .before .before .before .before .before .before .before .before .before .before .before .before .before .before .loop .book) (c .before .before .before .before .before .before .before .before .before .before .before .before .before .before .before .before .before .before .before .before .before .before .before .before .before .before .before .before .record-in .result .raw) (c .before .before .before .before .before .before .outcome2 .given .0 .0) _ (accepted (c .before .before .before .before .before .before)) (c .names .given .1)
 
-rewritten-is : (c : tie.After-names Inv-loop2 μ-loop2 Inv-loop μ-loop) → getD (c .before .before .before .before .before .before .before .before .before .before .before .before .before .before .before .before .before .before .before .before .before .before .before .before .before .before .before .before .before .before .before .loop .book .entries) (c .before .before .before .before .before .before .before .before .before .before .before .before .before .before .before .before .before .before .before .place2 .result) noEntry ≡ namedAt (c .before .before .before .before .before .before .before .before .before .before .before .before .before .before .before .before .before .before .before .before .before .before .before .before .before .before .before .before .before .before .before .loop .book) (c .before .before .before .before .before .before .before .before .before .before .before .before .before .before .before .before .before .before .before .before .before .before .before .before .before .before .before .before .record-in .result .raw)
+rewritten-is : (c : tie.After-names Inv-loop2 μ-loop2 Inv-loop μ-loop) → c .before .before .before .before .before .before .before .before .before .before .before .before .before .before .before .before .before .before .before .place2 .result ≡ c .names .given .0 .0
 rewritten-is c =
     rewrites (c .before .before .before .before .before .before .before .before .before .before .before .before .before .before .before .before .before .before .before .before .before .before .before .before .before .before .before .before .before .before .before .loop .book) (c .before .before .before .before .before .before .before .before .before .before .before .before .before .before .before .before .before .before .before .before .before .before .before .before .before .before .before .before .record-in .result .raw) (c .before .before .before .before .before .before .before .before .before .before .before .before .before .before .before .before .before .before .before .before .before .before .loop2 .search) _ _ (c .before .before .before .before .before .before .outcome2 .given .0 .0) (c .before .before .before .before .before .before .before .before .before .before .before .before .before .before .before .before .before .before .before .before .before .before .loop2 .inv)
     (sym (c .before .before .before .before .before .before .before .before .before .before .before .before .before .before .before .before .before .before .before .before .before .goes-on .ensures) ∙ c .before .before .before .before .before .before .before .before .before .before .before .before .before .before .before .before .before .before .before .before .if1 .left) (c .before .before .before .before .before .before .before .before .before .before .before .before .before .before .before .before .before .before .before .place2 .ensures) (accepted (c .before .before .before .before .before .before)) (c .names .given .1)
@@ -238,7 +237,7 @@ loop-again c =
     let r = c .before .before .before .before .before .before .before .before .before .before .before .before .before .before .before .before .before .before .before .before .before .before .before .before .before .before .before .before .before .before .record-in .result .raw in
     let step = replay-step (c .before .before .before .before .before .before .before .before .before .before .before .before .before .before .before .before .before .before .before .before .before .before .before .before .before .before .before .before .before .before .before .before .before .before .before .before .args .image) b _ (now (c .before .before .before .before .before .before .before .before .before .before .before .before .before .before .before .before .before .before .before .before .before .before .before .before .before .before .before .before .before .before .before .before .before .before .before .before .args .records)) (l .results) _ (l .i) _ (before-end (c .before .before .before .before .before .before .before .before .before .before .before .before .before .before .before .before .before .before .before .before .before .before .before .before .before .before .before .before .before .before .before .before)) (number-is (c .before .before .before .before .before .before .before .before .before .before .before .before .before .before .before .before))
     (ap (λ p. p .book) (post-accepted b r (c .before .before .before .before .before .before .before .before .outcome2 .given .0 .0) (c .before .before .before .before .before .before .before .before .before .before .before .before .before .before .before .before .before .before .before .outcome .result) _ _ _ _ _ _ _ _ (outcome-is (c .before .before .before .before .before .before .before .before .before .before .before .before .before .before .before .before .before .before .before)) (c .before .before .before .before .before .before .before .before .outcome2 .given .1) (c .before .before .before .before .before .before .before .before .before .before .before .before .before .before .before .before .before .before .before .before .before .before .before .before .before .before .before .slot .ensures) (next-number (c .before .before .before .before .before .before .before .before)) (c .before .before .before .before .before .numbered .ensures) (c .before .before .before .before .before .before .entry3 .ensures)
-    (c .rewritten .ensures ∙ ap (λ e. withOf e (c .before .before .before .before .before .before .before .before .outcome2 .given .0 .0 .named)) (rewritten-is (c .before .before))) (c .before .before .names .given .1) (c .before .before .before .before .after .ensures) refl) ∙ ap (λ q. postOf b (q .raw) .book) (record-is (c .before .before .before .before .before .before .before .before .before .before .before .before .before .before .before .before .before .before .before .before .before .before .before .before .before .before .before .before .before .before))) (c .before .before .before .before .before .before .before .before .before .before .before .before .before .before .before .mark .ensures) (goes-on (c .before .before .before .before .before .before .before .before .before .before)) in
+    (c .before .before .names .given .1) (rewrites-at (b .entries) (set (b .entries) (b .count) (c .before .before .before .before .before .before .entry3 .result)) _ _ (c .before .before .before .before .before .before .before .before .outcome2 .given .0 .0 .named) _ (c .rewritten .ensures) (rewritten-is (c .before .before))) (c .before .before .before .before .after .ensures) refl) ∙ ap (λ q. postOf b (q .raw) .book) (record-is (c .before .before .before .before .before .before .before .before .before .before .before .before .before .before .before .before .before .before .before .before .before .before .before .before .before .before .before .before .before .before))) (c .before .before .before .before .before .before .before .before .before .before .before .before .before .before .before .mark .ensures) (goes-on (c .before .before .before .before .before .before .before .before .before .before)) in
     (step .0, step .1 ∙ l .inv .1, l .inv .2 ∙ step .2)
 
 enum-told-2 : tie.Need-enum-told-2 Inv-loop2 μ-loop2 Inv-loop μ-loop
@@ -254,7 +253,7 @@ loop-again-2 c =
     let r = c .before .before .before .before .before .before .before .before .before .before .before .before .before .before .before .before .before .before .before .before .before .before .before .before .before .before .before .before .record-in .result .raw in
     let step = replay-step (c .before .before .before .before .before .before .before .before .before .before .before .before .before .before .before .before .before .before .before .before .before .before .before .before .before .before .before .before .before .before .before .before .before .before .args .image) b _ (now (c .before .before .before .before .before .before .before .before .before .before .before .before .before .before .before .before .before .before .before .before .before .before .before .before .before .before .before .before .before .before .before .before .before .before .args .records)) (l .results) _ (l .i) _ (before-end (c .before .before .before .before .before .before .before .before .before .before .before .before .before .before .before .before .before .before .before .before .before .before .before .before .before .before .before .before .before .before)) (number-is (c .before .before .before .before .before .before .before .before .before .before .before .before .before .before))
     (ap (λ p. p .book) (post-accepted b r (c .before .before .before .before .before .before .outcome2 .given .0 .0) (c .before .before .before .before .before .before .before .before .before .before .before .before .before .before .before .before .before .outcome .result) _ _ _ _ _ _ _ _ (outcome-is (c .before .before .before .before .before .before .before .before .before .before .before .before .before .before .before .before .before)) (c .before .before .before .before .before .before .outcome2 .given .1) (c .before .before .before .before .before .before .before .before .before .before .before .before .before .before .before .before .before .before .before .before .before .before .before .before .before .slot .ensures) (next-number (c .before .before .before .before .before .before)) (c .before .before .before .numbered .ensures) (c .before .before .before .before .entry3 .ensures)
-    refl (c .enum-told2 .given .1) (c .before .before .after .ensures) refl) ∙ ap (λ q. postOf b (q .raw) .book) (record-is (c .before .before .before .before .before .before .before .before .before .before .before .before .before .before .before .before .before .before .before .before .before .before .before .before .before .before .before .before))) (c .before .before .before .before .before .before .before .before .before .before .before .before .before .mark .ensures) (goes-on (c .before .before .before .before .before .before .before .before)) in
+    (c .enum-told2 .given .1) refl (c .before .before .after .ensures) refl) ∙ ap (λ q. postOf b (q .raw) .book) (record-is (c .before .before .before .before .before .before .before .before .before .before .before .before .before .before .before .before .before .before .before .before .before .before .before .before .before .before .before .before))) (c .before .before .before .before .before .before .before .before .before .before .before .before .before .mark .ensures) (goes-on (c .before .before .before .before .before .before .before .before)) in
     (step .0, step .1 ∙ l .inv .1, l .inv .2 ∙ step .2)
 
 enum-told-3 : tie.Need-enum-told-3 Inv-loop2 μ-loop2 Inv-loop μ-loop
