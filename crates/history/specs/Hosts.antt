@@ -105,7 +105,7 @@ hostOffers h (carryOver run results output) = cond (eqb (carryRefusalIn h run re
 hostOffers h (statement account allowance) = h
 hostOffers h (contribution account node serial) = h
 
--- what every lent list of bytes satisfies
+-- what every lent entry and run satisfies: each byte is below 256
 abbrev pub Lent : HostCall → Type 0
 Lent check = Unit {0}
 Lent (posting entry output) = Bytes entry
