@@ -3,13 +3,14 @@ use mathlib.Core.Path.{_≡_, refl, sym, ap, _∙_, subst}
 use Prim.Native.Nat.{ℕ, zero, suc, _+_, _-_, _≤_, _<_}
 use native.Mathlib.Omega.{arith}
 use mathlib.Core.Bool.{Bool, true, false, cond}
-use mathlib.Core.List.{List, [], _∷_}
+use mathlib.Core.List.{List, [], _∷_, _++_}
 use lib.ListN.{length, getD, set, replicate, length-set, length-replicate, getD-replicate}
 use lib.Seq.{take-all, getD-set-same, getD-set-other}
 use lib.Dec.{eqb}
 use borrow.Author.Tests.{eqb-true, eqb-false, eq-eqb, le-leb}
-use Rattle.entries.specs.Kinds.{kindOf, sameOf}
+use Rattle.entries.specs.Kinds.{kindOf, sameOf, namesOf}
 use Rattle.entries.specs.Ranges.{between}
+use Rattle.entries.specs.Refusals as checks
 use Rattle.entries.specs.Refusals.{refusalNumber}
 use Rattle.entries.specs.Entries.{noEntry, entryOf, withOf}
 use Rattle.entries.specs.declared.raw.Raw.{Raw}
@@ -25,8 +26,7 @@ use Rattle.entries.proofs.Ranges.{inside}
 use Rattle.rules.specs.Formulas.{billed, interest}
 use Rattle.rules.specs.Accounts.{noAccount, numberedOf}
 use Rattle.rules.specs.Answers.{replyOf}
-use Rattle.rules.specs.Checks.{checkStateOf}
-use Rattle.rules.specs.Changes.{effectOf, answerOf}
+use Rattle.rules.specs.Changes.{decidedOf, answerOf}
 use Rattle.rules.specs.declared.accounts.Account.{Account}
 use Rattle.rules.specs.declared.changes.Found.{Found}
 use Rattle.rules.specs.declared.changes.Found.the-variants.{At, Nothing}
@@ -35,9 +35,10 @@ use Rattle.rules.specs.declared.changes.Outcome.{Outcome}
 use Rattle.rules.specs.declared.changes.Outcome.the-variants.{Refused, Accepted}
 use Rattle.book.specs.Fresh.{freshBook}
 use Rattle.book.specs.Serials.{lastOf, afterOf}
-use Rattle.book.specs.Chain.{slotOf, entryAt}
-use Rattle.book.specs.Refusals.{checkEntryOf, decidedOf, outcomeOf}
-use Rattle.book.specs.Posting.{accountAt, lookupOf, namedAt, rewritten, storedOf, bookAfter, decisionOf, postOf}
+use Rattle.book.specs.Chain as chains
+use Rattle.book.specs.Chain.{slotOf, soughtIn}
+use Rattle.book.specs.Refusals.{entryRows}
+use Rattle.book.specs.Posting.{accountAt, lookupOf, rewritten, storedOf, bookAfter, decisionOf, postOf}
 use Rattle.book.specs.declared.Book.{Book}
 use Rattle.book.specs.declared.Serials.{Serials}
 use Rattle.queries.specs.Chain.{chainAt}
@@ -51,8 +52,8 @@ use Rattle.history.proofs.Names.{hit, fate-new, customers-new, misses-k
 use Rattle.history.proofs.Moves.{named-at, move-contribution, move-bill, move-payment, move-deposit, move-return, move-added, move-expiry, move-correction, corrects}
 use Rattle.history.proofs.Conserve.{postedAs, divide}
 use Rattle.history.proofs.Bound.{in-ranges, billed-small, interest-small, added-small, standing-small, bounded}
-use Rattle.history.proofs.Tables.{state-same, check-same}
-use Rattle.history.proofs.Search.{placeOf, links, chain-short, kept-found, lookup-same, alike, last-same}
+use Rattle.history.proofs.Tables.{rows, effect, one-table, check-same}
+use Rattle.history.proofs.Search.{placeOf, links, chain-short, kept-found, lookup-same, state-same, last-same}
 use Rattle.history.proofs.Effects.{changeBy, contribution-effect, bill-effect, payment-effect, deposit-effect, return-effect, added-effect, expiry-effect, correction-effect}
 use Rattle.history.proofs.Stored.{slot-at, rows-past, rows-miss, rows-hit}
 
@@ -62,7 +63,7 @@ module _ {b : Book} {h : History} (w : Agrees b h) (v : Valid h) (r : Raw) where
   k = kindOf (r .kind)
 
   abbrev sought : chains.Sought
-  sought = chains.soughtIn (b .entries) (lookupOf b r)
+  sought = soughtIn (b .entries) (lookupOf b r)
 
   abbrev table : List checks.Row
   table = entryRows r k (b .count) (lastOf (b .last) (r .node)) ++ rows r k (accountAt b (r .account)) (namesOf k) sought
@@ -87,11 +88,11 @@ decided-refused (check.Refused m) o n e = (m, refl, e)
 
 module _ {b : Book} {h : History} (w : Agrees b h) (v : Valid h) (r : Raw) where
   abbrev does : Outcome
-  does = effect r (kindOf (r .kind)) (accountAt b (r .account)) (namesOf (kindOf (r .kind))) (chains.soughtIn (b .entries) (lookupOf b r))
+  does = effect r (kindOf (r .kind)) (accountAt b (r .account)) (namesOf (kindOf (r .kind))) (soughtIn (b .entries) (lookupOf b r))
 
   whole : decisionOf b r ≡ decidedOf (checks.firstOf check.Passed (table w v r)) does
   unfolding decisionOf
-  whole = one-table r (b .count) (lastOf (b .last) (r .node)) (accountAt b (r .account)) (chains.soughtIn (b .entries) (lookupOf b r))
+  whole = one-table r (b .count) (lastOf (b .last) (r .node)) (accountAt b (r .account)) (soughtIn (b .entries) (lookupOf b r))
 
   decision-refused : (n : ℕ) → judge h r ≡ suc n → (m : Refusal) × (decisionOf b r ≡ Refused m) × (refusalNumber m ≡ suc n)
   decision-refused n j = let d = decided-refused _ does n (refusal-same w v r ∙ j) in (d .0, whole ∙ d .1, d .2)
@@ -163,6 +164,7 @@ module _ {b : Book} {h : History} (w : Agrees b h) (v : Valid h) (r : Raw) (j : 
         rw (fate-hit r h e (names-points r e k p), customers-other (λ (y : Amounts). y .settled) r h e o, customers-other (λ (y : Amounts). y .paidOut) r h e o) refl
 
   effect-by : Sort h r → Effect (moveBy h r bal) (dataIn (r ∷ h) r) (named h r) (newNamed h r (named h r))
+  unfolding soughtIn
   effect-by (as-contribution k) =
       close stays (keptData kind.Contribution r (posted r) 0 0) missing data′.Unused (move-contribution h r bal k) (data-new ∙ (rw k refl)) (named-none h r (ap naming k)) refl
       (rw (account-at, k) (ap Accepted (contribution-effect r bal last)))
@@ -197,7 +199,7 @@ module _ {b : Book} {h : History} (w : Agrees b h) (v : Valid h) (r : Raw) (j : 
       close (refunds x) (keptData kind.AddedCustomer r (fate (r ∷ h) r) 0 0) (found i e)
       (keptData kind.Contribution e (change kind.AddedCustomer r e (fate h e)) (answered (refunds x) bal .settled + toArrears h e) (answered (refunds x) bal .paidOut + refundsPaid h e))
       (move-added h r bal i e f k) (rw k refl) (named-at h r bal i e f (ap naming k)) (named-added i e f k c)
-      (rw (account-at, lookup-at, named-at h r bal i e f (ap naming k), data-at i e f, k, c)
+      (rw (account-at, lookup-at, named-at h r bal i e f (ap naming k), k, data-at i e f, c)
       (ap Accepted (added-effect r bal last e (fate h e) i (toArrears h e) (refundsPaid h e) (fate (r ∷ h) r) small (accepts h r j .ranges .a)
       (omega (arith, added-small h e)) (omega arith) (omega arith))))
   effect-by (as-expiry k i e f c o) =
@@ -205,7 +207,7 @@ module _ {b : Book} {h : History} (w : Agrees b h) (v : Valid h) (r : Raw) (j : 
       (keptData kind.Contribution e (change kind.Expiry r e (fate h e)) (toArrears h e) (refundsPaid h e))
       (move-expiry h r bal i e f k) (rw k refl) (named-at h r bal i e f (ap naming k))
       (named-other i e f (ap naming k) (ap (λ (l : Kind). sameOf l kind.AddedCustomer) k) ∙ (rw (k, c) refl))
-      (rw (account-at, lookup-at, named-at h r bal i e f (ap naming k), data-at i e f, k, c)
+      (rw (account-at, lookup-at, named-at h r bal i e f (ap naming k), k, data-at i e f, c)
       (ap Accepted (expiry-effect r bal last e (fate h e) i (toArrears h e) (refundsPaid h e) (fate (r ∷ h) r))))
   effect-by (as-correction k i e f bill c u) =
       let bd = bounded v (r .account) in
@@ -216,7 +218,7 @@ module _ {b : Book} {h : History} (w : Agrees b h) (v : Valid h) (r : Raw) (j : 
       (keptData (correctable bill) e (change kind.Correction r e (fate h e)) (toArrears h e) (refundsPaid h e))
       (move-correction h r bal i e f bill k c) (rw k refl) (named-at h r bal i e f (ap naming k))
       (named-other i e f (ap naming k) (ap (λ (l : Kind). sameOf l kind.AddedCustomer) k) ∙ (rw (k, c) refl))
-      (rw (account-at, lookup-at, named-at h r bal i e f (ap naming k), data-at i e f, k, c)
+      (rw (account-at, lookup-at, named-at h r bal i e f (ap naming k), k, data-at i e f, c)
       (ap Accepted (correction-effect r bal last e (fate h e) i (toArrears h e) (refundsPaid h e) (fate (r ∷ h) r) bill
       (omega (arith, bd .arrears)) (omega (arith, bd .credit)))))
 

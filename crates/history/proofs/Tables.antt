@@ -6,7 +6,7 @@ use mathlib.Core.Bool.{Bool, true, false, cond, not, _&&_, _||_, true≢false}
 use mathlib.Core.List.{List, [], _∷_, _++_}
 use lib.ListN.{length, drop}
 use lib.Dec.{eqb, leb, ltb}
-use borrow.Author.Tests.{ltb-true, ltb-false, leb-true, leb-false, le-leb, lt-leb, lt-ltb, le-ltb, not-false}
+use borrow.Author.Tests.{eqb-true, ltb-true, ltb-false, leb-true, leb-false, le-leb, lt-leb, lt-ltb, le-ltb, not-false}
 use Rattle.entries.specs.Kinds.{kindOf, namesOf, misnamesOf, sameOf}
 use Rattle.entries.specs.Ranges.{between}
 use Rattle.entries.specs.Refusals.{refusalNumber, ruleOf}
@@ -34,13 +34,18 @@ use Rattle.history.specs.History.{History, accounts, entries, naming, su
 use Rattle.history.specs.Agreement.{keptAccount}
 use Rattle.history.proofs.Accept.{or-left, or-right, no-kind, same-kind, is-contribution}
 
--- Row by row the same test and number, where a row of the history's that the book's table has not is not broken; each as far as no
+abbrev Pick : Bool → Type 0 → Type 0 → Type 0
+Pick true A B = A
+Pick false A B = B
+
+-- Rows of one number have the same test, and a row of the history's that the book's table has not is not broken; each as far as no
 -- earlier row stops the entry.
-pub data Same : List checks.Row → List Row → Type 0 where
-  ends : Same [] []
-  row : {x : checks.Row} {xs : List checks.Row} {y : Row} {ys : List Row} → x .broken ≡ y .broken → refusalNumber (x .refusal) ≡ y .number →
-      (y .broken ≡ false → Same xs ys) → Same (x ∷ xs) (y ∷ ys)
-  skip : {xs : List checks.Row} {y : Row} {ys : List Row} → y .broken ≡ false → Same xs ys → Same xs (y ∷ ys)
+abbrev pub Same : List checks.Row → List Row → Type 0
+Same [] [] = Unit {0}
+Same (x ∷ xs) [] = ⊥
+Same [] (y ∷ ys) = (y .broken ≡ false) × Same [] ys
+Same (x ∷ xs) (y ∷ ys) =
+    Pick (eqb (refusalNumber (x .refusal)) (y .number)) ((x .broken ≡ y .broken) × (y .broken ≡ false → Same xs ys)) ((y .broken ≡ false) × Same (x ∷ xs) ys)
 
 refused-first : (n : Refusal) (xs : List checks.Row) → checks.firstOf (check.Refused n) xs ≡ check.Refused n
 refused-first n [] = refl
@@ -48,13 +53,23 @@ refused-first n (x ∷ xs) = rw (refused-stays n (x .refusal) (x .broken)) (refu
 
 pub first-same : (xs : List checks.Row) (ys : List Row) → Same xs ys → checkNumber (checks.firstOf check.Passed xs) ≡ firstOf ys
 unfolding ruleOf checkNumber
-first-same [] [] ends = refl
-first-same xs (y ∷ ys) (skip n s) = rw n (first-same xs ys s)
-first-same (x ∷ xs) (y ∷ ys) (row p q s) = rw p (go (λ t. first-same xs ys t) (y .broken) refl)
+first-same [] [] s = refl
+first-same (x ∷ xs) [] s = absurd s
+first-same [] (y ∷ ys) s = rw (s .0) (first-same [] ys (s .1))
+first-same (x ∷ xs) (y ∷ ys) s =
+    pick (λ q. first-same xs ys q) (λ q. first-same (x ∷ xs) ys q) (eqb (refusalNumber (x .refusal)) (y .number)) refl s
   where
-    go : (Same xs ys → checkNumber (checks.firstOf check.Passed xs) ≡ firstOf ys) → (t : Bool) → y .broken ≡ t → checkNumber (checks.firstOf (ruleOf check.Passed t (x .refusal)) xs) ≡ cond t (y .number) (firstOf ys)
-    go ih true e = rw (refused-first (x .refusal) xs) q
-    go ih false e = ih (s e)
+    here : (Same xs ys → checkNumber (checks.firstOf check.Passed xs) ≡ firstOf ys) → (y .broken ≡ false → Same xs ys) → refusalNumber (x .refusal) ≡ y .number →
+        (t : Bool) → y .broken ≡ t → checkNumber (checks.firstOf (ruleOf check.Passed t (x .refusal)) xs) ≡ cond t (y .number) (firstOf ys)
+    here ih s q true e = rw (refused-first (x .refusal) xs) q
+    here ih s q false e = ih (s e)
+
+    pick : (Same xs ys → checkNumber (checks.firstOf check.Passed xs) ≡ firstOf ys) →
+        (Same (x ∷ xs) ys → checkNumber (checks.firstOf check.Passed (x ∷ xs)) ≡ firstOf ys) → (t : Bool) → eqb (refusalNumber (x .refusal)) (y .number) ≡ t →
+        Pick t ((x .broken ≡ y .broken) × (y .broken ≡ false → Same xs ys)) ((y .broken ≡ false) × Same (x ∷ xs) ys) →
+        checkNumber (checks.firstOf check.Passed (x ∷ xs)) ≡ firstOf (y ∷ ys)
+    pick ih more true e s = rw (s .0) (here ih (s .1) (eqb-true _ _ e) (y .broken) refl)
+    pick ih more false e s = rw (s .0) (more (s .1))
 
 -- TESTS THAT ARE SAID UNLIKE
 age-over : (x y : ℕ) → leb refundPeriod (x - y) ≡ leb (y + period) x
@@ -118,7 +133,7 @@ pub record Seen (n : Named) (l : Kind) (x : Raw) (f : Fate) : Type 0 where
 -- what is left of the table after 1 to 7, for the entry that r names or none, and what an entry does that passes it
 abbrev pub rows : Raw → Kind → Account → Bool → chains.Sought → List checks.Row
 rows r k acc false s = ownRows r k acc
-rows r k acc true chains.missing = (true checks.⇒ no.NotOnChain) ∷ []
+rows r k acc true chains.missing = record { broken = true; refusal = no.NotOnChain } ∷ []
 rows r k acc true (chains.found i e) = namingRows r k e
 
 abbrev pub effect : Raw → Kind → Account → Bool → chains.Sought → Outcome
@@ -136,7 +151,7 @@ parted c (x ∷ xs) ys o = parted (ruleOf c (x .broken) (x .refusal)) xs ys o
 
 pub one-table : (r : Raw) (count last : ℕ) (acc : Account) (s : chains.Sought) → let k = kindOf (r .kind) in
     outcomeOf r count last acc s ≡ decidedOf (checks.firstOf check.Passed (entryRows r k count last ++ rows r k acc (namesOf k) s)) (effect r k acc (namesOf k) s)
-unfolding outcomeOf checkEntryOf
+unfolding outcomeOf checkEntryOf searchedOf ownOutcomeOf namingOutcomeOf checkOwnOf checkNamingOf ruleOf decidedOf
 one-table r count last acc s = rw (go (namesOf k) s) (parted check.Passed (entryRows r k count last) (rows r k acc (namesOf k) s) (effect r k acc (namesOf k) s))
   where
     k : Kind
@@ -144,7 +159,6 @@ one-table r count last acc s = rw (go (namesOf k) s) (parted check.Passed (entry
 
     go : (t : Bool) (s : chains.Sought) →
         cond t (searchedOf r k acc s) (ownOutcomeOf r k acc) ≡ decidedOf (checks.firstOf check.Passed (rows r k acc t s)) (effect r k acc t s)
-    unfolding searchedOf ownOutcomeOf namingOutcomeOf checkOwnOf checkNamingOf ruleOf decidedOf
     go false s = refl
     go true chains.missing = refl
     go true (chains.found i e) = refl
@@ -154,18 +168,25 @@ module _ (h : History) (r : Raw) (k : Kind) (b : Balance) where
   -- of an entry that names nothing
   pub own-same : (newest : ℕ) → naming k ≡ false → Same (rows r k (keptAccount b newest) false chains.missing) (drop 7 (refusals h r k (entryIn missing) (fateIn h missing) b))
   own-same newest n =
-      let other : (p : Bool) → (sameOf k kind.AddedCustomer && p) ≡ false = λ p. ap (λ t. t && p) (or-left _ _ n) in
-      let expiry : (p : Bool) → (sameOf k kind.Expiry && p) ≡ false = λ p. ap (λ t. t && p) (or-left _ _ (or-right _ _ n)) in
-      skip (rw n refl)
-      (row refl refl (λ t.
-      row (own-day (sameOf k kind.DepositReturn) (r .day) (b .deposited)) refl (λ t.
-      skip (rw no-kind refl) (skip (other _) (skip (expiry _) (skip (other _) (skip (other _) (skip (rw no-kind refl) ends))))))))
+      let later = sameOf k kind.Expiry || sameOf k kind.Correction in
+      let no-added = or-left (sameOf k kind.AddedCustomer) later n in
+      let no-expiry = or-left (sameOf k kind.Expiry) (sameOf k kind.Correction) (or-right (sameOf k kind.AddedCustomer) later n) in (
+        rw n refl,
+        (
+          refl,
+          λ t. (
+            own-day (sameOf k kind.DepositReturn) (r .day) (b .deposited),
+            λ t.
+                (rw no-kind refl, (rw no-added refl, (rw no-expiry refl, (rw no-added refl, (rw no-added refl, (rw no-kind refl, tt)))))),
+          ),
+        ),
+      )
 
   -- of an entry that names one that is not on the chain
   pub missing-same : (acc : Account) → naming k ≡ true → Same (rows r k acc true chains.missing) (drop 7 (refusals h r k (entryIn missing) (fateIn h missing) b))
   missing-same acc n =
       let stops : true ≡ (naming k && not (suits k (kindOf 0))) = rw (n, no-kind) (none (sameOf k kind.Correction)) in
-      row stops refl (λ t. absurd (true≢false (stops ∙ t)))
+      (stops, λ t. absurd (true≢false (stops ∙ t)))
     where
       none : (t : Bool) → true ≡ not (cond t false false)
       none true = refl
@@ -175,16 +196,34 @@ module _ (h : History) (r : Raw) (k : Kind) (b : Balance) where
   module _ (acc : Account) (i : ℕ) (e : Entry) (x : Raw) (f : Fate) (n : naming k ≡ true) (on : e .day .0 ≡ x .day) (s : Seen (namedOf (e .«data»)) (kindOf (x .kind)) x f) where
     pub naming-same : Same (rows r k acc true (chains.found i e)) (drop 7 (refusals h r k x f b))
     naming-same =
-        let returned = naming-not k kind.DepositReturn refl n in
-        row (rw (s .of-kind) (misnames-same k (kindOf (x .kind)))) refl (λ suited.
-        skip (rw (naming-not k kind.Deposit refl n, returned) refl)
-        (row (rw returned (ap (λ n. ltb (r .day) n) on)) refl (λ t.
-        row (s .closed) refl (λ t.
-        row (ap (λ q. sameOf k kind.AddedCustomer && q) (age-over (r .day) (e .day .0) ∙ ap (λ n. leb (n + period) (r .day)) on)) refl (λ t.
-        row (ap (λ q. sameOf k kind.Expiry && q) (age-below (r .day) (e .day .0) ∙ ap (λ n. ltb (r .day) (n + period)) on)) refl (λ t.
-        row (added-same k (kindOf (x .kind)) _ _ (λ l. ap (λ n. eqb (r .b) 1 && eqb n 3) (rw l at (s .phases))) suited) refl (λ t.
-        row (added-same k (kindOf (x .kind)) _ _ (λ l. ap (λ n. ltb n (r .a)) (rw l at (s .built))) suited) refl (λ t.
-        row (s .corrected) refl (λ t. ends)))))))))
+        let returned = naming-not k kind.DepositReturn refl n in (
+          rw (s .of-kind) (misnames-same k (kindOf (x .kind))),
+          λ suited. (
+            rw (naming-not k kind.Deposit refl n, returned) refl,
+            (
+              rw returned (ap (λ n. ltb (r .day) n) on),
+              λ t. (
+                s .closed,
+                λ t. (
+                  ap (λ q. sameOf k kind.AddedCustomer && q) (age-over (r .day) (e .day .0) ∙ ap (λ n. leb (n + period) (r .day)) on),
+                  λ t. (
+                    ap (λ q. sameOf k kind.Expiry && q) (age-below (r .day) (e .day .0) ∙ ap (λ n. ltb (r .day) (n + period)) on),
+                    λ t. (
+                      added-same k (kindOf (x .kind)) _ _ (λ l. ap (λ n. eqb (r .b) 1 && eqb n 3) (rw l at (s .phases))) suited,
+                      λ t. (
+                        added-same k (kindOf (x .kind)) _ _ (λ l. ap (λ n. ltb n (r .a)) (rw l at (s .built))) suited,
+                        λ t. (
+                          s .corrected,
+                          λ t. tt,
+                        ),
+                      ),
+                    ),
+                  ),
+                ),
+              ),
+            ),
+          ),
+        )
 
 -- the two tables as a whole
 module _ (h : History) (r : Raw) (k : Kind) (count last : ℕ) (rest : List checks.Row) (x : Raw) (f : Fate) (b : Balance) (counted : count ≡ length h)
@@ -192,11 +231,23 @@ module _ (h : History) (r : Raw) (k : Kind) (count last : ℕ) (rest : List chec
     (state : between (r .account) 1 accounts ≡ true → Same rest (drop 7 (refusals h r k x f b))) where
   pub check-same : checkNumber (checks.firstOf check.Passed (entryRows r k count last ++ rest)) ≡ firstOf (refusals h r k x f b)
   check-same =
-      first-same (entryRows r k count last ++ rest) (refusals h r k x f b)
-      (row refl refl (λ t.
-      row refl refl (λ node.
-      row refl refl (λ account.
-      row refl refl (λ t.
-      row refl refl (λ t.
-      row (ap (λ n. leb (r .serial) n) (lasts (not-false _ node))) refl (λ t.
-      row (ap (λ n. leb entries n) counted) refl (λ t. state (not-false _ account)))))))))
+      first-same (entryRows r k count last ++ rest) (refusals h r k x f b) (
+        refl,
+        λ t. (
+          refl,
+          λ node. (
+            refl,
+            λ account. (
+              refl,
+              λ t. (
+                refl,
+                λ t. (
+                  ap (λ n. leb (r .serial) n) (lasts (not-false _ node)),
+                  λ t.
+                      (ap (λ n. leb entries n) counted, λ t. state (not-false _ account)),
+                ),
+              ),
+            ),
+          ),
+        ),
+      )
