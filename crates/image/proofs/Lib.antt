@@ -7,3 +7,4 @@ pub mod Trips
 pub mod Replays
 pub mod Ranges
 pub mod Again
+pub mod Longest

@@ -3,3 +3,4 @@ pub mod Saves
 pub mod Loads
 pub mod Replays
 pub mod Rounds
+pub mod Longest

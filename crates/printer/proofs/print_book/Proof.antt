@@ -4,7 +4,8 @@ use native.Mathlib.Omega.{arith}
 use denote.Ref.{now}
 use lib.ListN.{length}
 use Rattle.lines.specs.Lines.{longestLine, endLine}
-use Rattle.lines.proofs.Buffers.{Holds, appended, holds-none, holds-more, holds-length, holds-all}
+use Rattle.lines.specs.Buffers.{writtenAt}
+use Rattle.lines.proofs.Buffers.{written, Holds, appended, holds-none, holds-more, holds-length, holds-all}
 use Rattle.book.specs.Fresh.{accountsMost}
 use Rattle.book.proofs.Chain.{slot-inside}
 use Rattle.queries.specs.Statement.{statementOf}
@@ -55,11 +56,11 @@ loop-less c = omega arith
 loop-again : tie.Need-loop-again Inv-loop μ-loop
 loop-again c =
     let l = c .before .before .before .before .before .before .before .before .before .before .before .loop in
-    let s = c .before .before .before .before .reply .result in
+    let line = statementLine (l .account + 1) (c .before .before .before .before .reply .result) in
     let w = c .before .before .account-line in
-    let room : l .at + length (statementLine (l .account + 1) s) ≤ length (l .text) = omega (arith, w .ensures .1) in
-    let a = appended (statementLine (l .account + 1) s) (l .text) (w .last .0) (l .at) (w .result) room (w .ensures .0) in
-    (omega arith, search needs, omega (arith, a .end, w .ensures .1), turn-more (c .before .before .before .before .before .before .before .before .before .before .before .before .before .args .t1) (l .account) (c .before .before .before .before .before .before .before .before .before .slot .result) (c .before .before .before .before .before .before .before .before .before .slot .ensures) s (now (c .before .before .before .before .before .before .before .before .before .before .before .before .before .args .text)) (l .text) (w .last .0) (l .at) (w .result) (c .before .before .before .before .before .before .if1 .taken) (c .before .before .before .before .reply .ensures ∙ c .before .before .before .before .before .statement .ensures) room (search needs) (l .inv .3) (w .ensures .0))
+    let put : written (w .last .0) (w .result) ≡ writtenAt line (l .at) (l .text) = w .ensures .0 in
+    let room : l .at + length line ≤ length (l .text) = omega (arith, w .ensures .1) in
+    (omega arith, search needs, omega (arith, appended line (l .text) (w .last .0) (l .at) (w .result) room put .end, w .ensures .1), turn-more (c .before .before .before .before .before .before .before .before .before .before .before .before .before .args .t1) (l .account) (c .before .before .before .before .before .before .before .before .before .slot .result) (c .before .before .before .before .before .before .before .before .before .slot .ensures) (c .before .before .before .before .reply .result) (now (c .before .before .before .before .before .before .before .before .before .before .before .before .before .args .text)) (l .text) (w .last .0) (l .at) (w .result) (c .before .before .before .before .before .before .if1 .taken) (c .before .before .before .before .reply .ensures ∙ c .before .before .before .before .before .statement .ensures) room (search needs) (l .inv .3) put)
 
 loop-less-2 : tie.Need-loop-less-2 Inv-loop μ-loop
 loop-less-2 c = omega arith
