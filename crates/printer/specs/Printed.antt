@@ -15,7 +15,7 @@ use Rattle.image.specs.Loads.{LoadReply}
 abbrev pub hasEntries : Book → ℕ → Bool
 hasEntries b account = not (eqb (accountAt b account .newest) 0)
 
--- account, arrears, credit, deposit held, held
+-- account, arrears, credit, deposit held, held: figures of its statement that do not depend on the allowance
 abbrev pub statementLine : ℕ → StatementReply → List ℕ
 statementLine account s = accountLine account (s .arrears) (s .credit) (s .deposit) (s .held)
 
@@ -25,7 +25,7 @@ accountLines b zero = []
 accountLines b (suc n) =
     accountLines b n ++ cond (hasEntries b (suc n)) (statementLine (suc n) (statementOf b (suc n) 0)) []
 
--- the last line is `end` and the count
+-- the lines of all accounts; the last line is `end` and the count
 abbrev pub bookLines : Book → List ℕ
 bookLines b = accountLines b accountsMost ++ endLine (b .count)
 

@@ -54,15 +54,15 @@ pub fn printed(loaded: Loaded, text: &mut [u8; ROOM]) -> usize
     }
 }
 
-// Writes it to standard output.
+// Writes what the printer writes of a load to standard output.
 pub fn print_loaded(loaded: Loaded) {
     let mut text = [0u8; ROOM];
     let n = printed(loaded, &mut text);
     io::write_all(1, &text[..n]);
 }
 
-// Prints the image on standard input. No contract can say what is read and written: that the image is what standard input holds, and
-// that its text goes to standard output.
+// The printer: reads an image from standard input, loads it and writes what it gives. No contract can say what is read and written, so
+// what is proved is `load` of the bytes that were read and `printed` of what it gives.
 pub fn print_input() {
     // One byte more than the longest image has, so that a longer one is noticed.
     let mut image = [0u8; codec::LONGEST + 1];

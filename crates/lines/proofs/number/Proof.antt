@@ -1,22 +1,14 @@
-use Prim.Native.Nat.{_≤_}
-use mathlib.Core.Path.{_≡_, ap, _∙_}
-use mathlib.Core.List.{List, [], _∷_, _++_, append-assoc}
+use mathlib.Core.Path.{_∙_}
+use mathlib.Core.List.{[], _∷_, append-assoc}
 use native.Mathlib.Omega.{arith}
 use denote.Ref.{now}
-use lib.ListN.{length, take}
-use Rattle.lines.specs.Decimal.{digits}
+use lib.ListN.{take}
 use Rattle.lines.specs.Lines.{space}
-use Rattle.lines.proofs.Buffers.{Appended, appended}
-use Rattle.lines.proofs.Decimal.{decimal, at-most-twenty}
+use Rattle.lines.proofs.Buffers.{appended}
+use Rattle.lines.proofs.Decimal.{shown}
 use borrow.Author.Needs.{needs}
 use Rattle.lines.proofs.number.Statement.{statement}
 use Rattle.lines.proofs.number.Tie as tie
-
-few : (c : tie.After-decimal) → c .decimal .result ≤ 20
-few c = at-most-twenty (c .before .before .before .args .n) (c .decimal .result) (c .decimal .ensures .1 .0) (omega arith)
-
-shown : (c : tie.After-decimal) → take (c .decimal .result) (c .decimal .last .1 .0) ≡ digits (c .before .before .before .args .n)
-shown c = c .decimal .ensures .1 .1 ∙ decimal _ _ (c .decimal .ensures .1 .0)
 
 decimal-requires : tie.Need-decimal-requires
 decimal-requires c κs = search needs
@@ -41,11 +33,11 @@ same-length c = search needs
 
 returns : tie.Need-returns
 returns c =
-    let k = few (c .before .before .before .before .before .before .before .before .before .before) in
-    let n = c .before .before .before .before .before .before .before .before .before .before .decimal .ensures .0 .1 in
+    let s = shown (c .before .before .before .before .before .before .before .before .before .before .before .before .before .args .n) (c .before .before .before .before .before .before .before .before .before .before .decimal .result) (c .before .before .before .before .before .before .before .before .before .before .decimal .last .1 .0) (omega arith) (c .before .before .before .before .before .before .before .before .before .before .decimal .ensures .1) in
+    let k = c .before .before .before .before .before .before .before .before .before .before .decimal .ensures .0 .1 in
     let a = appended (space ∷ []) (now (c .before .before .before .before .before .before .before .before .before .before .before .before .before .args .text)) (c .before .before .before .before .before .before .before .put .last .0) (c .before .before .before .before .before .before .before .before .before .before .before .before .before .args .at) (c .before .before .before .before .before .before .before .put .result) (omega arith) (c .before .before .before .before .before .before .before .put .ensures) in
     let b = appended (take (c .before .before .before .before .before .before .before .before .before .before .decimal .result) (c .before .before .before .before .before .before .before .before .before .before .decimal .last .1 .0)) (c .before .before .before .before .before .before .before .put .last .0) (c .before .before .put2 .last .0) (c .before .before .before .before .before .before .before .put .result) (c .before .before .put2 .result) (omega (arith, a .end)) (c .before .before .put2 .ensures) in
-    (omega (arith, a .end, b .end), b .front ∙ (rw (a .front, append-assoc, shown (c .before .before .before .before .before .before .before .before .before .before))))
+    (omega (arith, a .end, b .end), b .front ∙ (rw (a .front, append-assoc, s .1)))
 
 pub number-spec : {M : Type 1} → statement M
 number-spec =

@@ -1,4 +1,3 @@
-use mathlib.Core.Path.{_∙_}
 use native.Mathlib.Omega.{arith}
 use denote.Ref.{now}
 use Rattle.lines.proofs.Buffers.{no-room, copied}

@@ -8,7 +8,6 @@ use Rattle.lines.specs.Buffers.{writtenAt}
 use Rattle.lines.proofs.Buffers.{written, Holds, appended, holds-none, holds-more, holds-length, holds-all}
 use Rattle.book.specs.Fresh.{accountsMost}
 use Rattle.book.proofs.Chain.{slot-inside}
-use Rattle.queries.specs.Statement.{statementOf}
 use Rattle.printer.specs.Printed.{statementLine, accountLines}
 use Rattle.printer.proofs.Accounts.{turn-more, turn-same}
 use borrow.Author.Needs.{needs}

@@ -1,6 +1,4 @@
-use Prim.Native.Nat.{_≤_}
 use mathlib.Core.Path.{sym}
-use lib.ListN.{length}
 use lib.Seq.{length-take-le}
 use Rattle.image.specs.Loads.{loadedReply}
 use Rattle.printer.specs.Printed.{printedOf}

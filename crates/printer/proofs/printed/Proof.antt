@@ -1,9 +1,6 @@
-use mathlib.Core.Path.{_≡_, refl, ap, _∙_}
 use mathlib.Core.List.{[]}
 use native.Mathlib.Omega.{arith}
 use denote.Ref.{now}
-use Rattle.entries.specs.Refusals.{refusalNumber}
-use Rattle.lines.specs.Lines.{refusedLine}
 use Rattle.lines.proofs.Buffers.{holds-none, holds-more, holds-length, holds-all}
 use Rattle.printer.proofs.Accounts.{printed-book, printed-refused}
 use borrow.Author.Needs.{needs}
