@@ -2,3 +2,4 @@ pub mod Written
 pub mod Saving
 pub mod Loading
 pub mod Replays
+pub mod Longest

@@ -2,3 +2,4 @@ pub mod Raws
 pub mod Saves
 pub mod Loads
 pub mod Replays
+pub mod Longest

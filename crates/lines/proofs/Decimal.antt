@@ -1,10 +1,11 @@
 -- Laws of decimal numbers: the fewest digits are the digits without leading zeros, and they read as the number.
 use Prim.Native.Nat.{ℕ, zero, suc, _+_, _*_, _-_, _/_, _%_, _^_, _≤_, _<_}
-use mathlib.Core.Path.{_≡_, refl, ap}
+use mathlib.Core.Path.{_≡_, refl, ap, _∙_}
 use mathlib.Core.Bool.{Bool, true, false}
 use mathlib.Core.List.{List, [], _∷_, _++_}
 use native.Mathlib.Nat.{mod-lt, pow-zero, pow-suc, pow-le-pow-right, div-add-mod', div-lt-self, div-eq-of-lt, div-lt-iff-lt-mul, le-div-iff-mul-le}
 use native.Mathlib.Omega.{arith}
+use lib.ListN.{take}
 use lib.Dec.{ltb, leb}
 use borrow.Author.Tests.{ltb-true, ltb-false, lt-ltb, le-ltb, leb-true, leb-false}
 use Rattle.io.specs.Digits.{glyph, Fewest, digits as lastDigits}
@@ -41,7 +42,7 @@ fewest (suc k) (suc fuel) n f u l =
     (ap (λ ds. ds ++ ((48 + n % 10) ∷ []))
     (fewest k fuel (n / 10) (omega arith) (div-lt-iff-lt-mul (omega arith) .1 up) (λ h. le-div-iff-mul-le (omega arith) .1 low)))
 
-pub decimal : (n k : ℕ) → Fewest 10 1 n k → lastDigits 10 k n ≡ digits n
+decimal : (n k : ℕ) → Fewest 10 1 n k → lastDigits 10 k n ≡ digits n
 unfolding digits
 decimal n zero h = absurd (omega arith)
 decimal n (suc zero) h = fewest zero (suc n) n (omega arith) (h .1) (λ z. absurd (omega arith))
@@ -51,7 +52,7 @@ decimal n (suc (suc k)) h =
     fewest (suc k) (suc n) n (omega (arith, above (suc k))) (h .1) (λ z. low)
 
 -- a number of 64 bits has at most 20 digits
-pub at-most-twenty : (n k : ℕ) → Fewest 10 1 n k → n < 18446744073709551616 → k ≤ 20
+at-most-twenty : (n k : ℕ) → Fewest 10 1 n k → n < 18446744073709551616 → k ≤ 20
 at-most-twenty n k h b = go (leb k 20) refl
   where
     go : (t : Bool) → leb k 20 ≡ t → k ≤ 20
@@ -61,6 +62,11 @@ at-most-twenty n k h b = go (leb k 20) refl
         let low : 10 ^ (k - 1) ≤ n = h .2 (omega arith) in
         let twenty : 10 ^ 20 ≤ 10 ^ (k - 1) = pow-le-pow-right {n = 10} (omega arith) {i = 20} {j = k - 1} (omega arith) in
         absurd (omega arith)
+
+-- the decimal text of a number of 64 bits: its digits, of which there are at most 20
+pub shown : (n k : ℕ) (text : List ℕ) → n < 18446744073709551616 → Fewest 10 1 n k × (take k text ≡ lastDigits 10 k n) →
+    (k ≤ 20) × (take k text ≡ digits n)
+shown n k text b h = (at-most-twenty n k (h .0) b, h .1 ∙ decimal n k (h .0))
 
 value-last : (v : ℕ) (ds : List ℕ) (d : ℕ) → valueAfter v (ds ++ (d ∷ [])) ≡ valueAfter v ds * 10 + (d - 48)
 unfolding valueAfter

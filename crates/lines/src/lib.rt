@@ -1,14 +1,29 @@
-// The statement printer's lines, each written into a lent buffer. Where the buffer is shorter than the line it stays as it was,
-// and the length given is 0.
+// The statement printer's lines, each written into a lent buffer from a place on. What is given is the place after the line; where
+// the buffer has no room for the line, both stay as they were.
 ghost use Prim.Native.Nat.{_+_, _*_, _≤_, _<_};
 ghost use mathlib.Core.Path.{_≡_};
 ghost use mathlib.Core.List.{_∷_, _++_};
 ghost use lib.ListN.{length, take};
 ghost use Rattle.lines.specs.Decimal.{digits};
-ghost use Rattle.lines.specs.Lines.{space, lineOf, accountLine, endLine, refusedLine, bufferAfter, lengthAfter};
+ghost use Rattle.lines.specs.Lines.{space, longestLine, lineOf, accountLine, endLine, refusedLine};
+ghost use Rattle.lines.specs.Buffers.{writtenAt};
 
-// No line is longer.
+// No line is longer: `longestLine`.
 pub const LONGEST: usize = 128;
+
+// Writes a text over a buffer from a place on, where it has room, and gives the place after it.
+pub fn put(buf: &mut [u8], at: usize, text: &[u8]) -> usize
+    ensures { λ r. ⌜ (record { buffer = now (buf .exit); place = r }) ≡ writtenAt (now (text .entry)) at (now (buf .entry)) ⌝ }
+{
+    if buf.len() < at {
+        return at;
+    }
+    if buf.len() - at < text.len() {
+        return at;
+    }
+    let n = bytes::copy(text, &mut buf[at..]);
+    at + n
+}
 
 // Puts a space and a number in decimal at a place of a text, and gives the place after it. A number has at most 20 digits.
 fn number(text: &mut [u8], at: usize, n: u64) -> usize
@@ -17,65 +32,60 @@ fn number(text: &mut [u8], at: usize, n: u64) -> usize
 {
     let mut shown = [0u8; 20];
     let k = io::decimal(n, &mut shown);
-    let from = at + 1;
-    text[at] = b' ';
-    bytes::copy(&shown[..k], &mut text[from..]);
-    from + k
+    let from = put(text, at, b" ");
+    put(text, from, &shown[..k])
 }
 
 // Writes a word and numbers, one space between, and the end of the line.
-fn line(buf: &mut [u8], word: &[u8], numbers: &[u64]) -> usize
-    requires { ⌜ length (now word) + 21 * length (now numbers) < 128 ⌝ }
-    ensures { λ r. ⌜ r ≡ lengthAfter (lineOf (now (word .entry)) (now (numbers .entry))) (now (buf .entry)) ⌝ }
-    ensures { λ _. ⌜ now (buf .exit) ≡ bufferAfter (lineOf (now (word .entry)) (now (numbers .entry))) (now (buf .entry)) ⌝ }
+fn line(buf: &mut [u8], at: usize, word: &[u8], numbers: &[u64]) -> usize
+    requires { ⌜ length (now word) + 21 * length (now numbers) < longestLine ⌝ }
+    ensures { λ r. ⌜ (record { buffer = now (buf .exit); place = r }) ≡ writtenAt (lineOf (now (word .entry)) (now (numbers .entry))) at (now (buf .entry)) ⌝ }
+    ensures { λ _. ⌜ length (lineOf (now (word .entry)) (now (numbers .entry))) ≤ longestLine ⌝ }
 {
     let mut text = [0u8; LONGEST];
-    let mut at = bytes::copy(word, &mut text);
+    let mut n = put(&mut text, 0, word);
     let mut i = 0;
     while i < numbers.len() {
-        at = number(&mut text, at, numbers[i]);
+        n = number(&mut text, n, numbers[i]);
         i += 1;
     }
-    text[at] = b'\n';
-    let n = at + 1;
-    if buf.len() < n {
-        return 0;
-    }
-    bytes::copy(&text[..n], buf)
+    n = put(&mut text, n, b"\n");
+    put(buf, at, &text[..n])
 }
 
 // Account, arrears, credit, deposit held, held.
 pub fn account_line(
     buf: &mut [u8],
+    at: usize,
     account: u16,
     arrears: u64,
     credit: u64,
     deposit: u64,
     held: u64,
 ) -> usize
-    ensures { λ r. ⌜ r ≡ lengthAfter (accountLine account arrears credit deposit held) (now (buf .entry)) ⌝ }
-    ensures { λ _. ⌜ now (buf .exit) ≡ bufferAfter (accountLine account arrears credit deposit held) (now (buf .entry)) ⌝ }
+    ensures { λ r. ⌜ (record { buffer = now (buf .exit); place = r }) ≡ writtenAt (accountLine account arrears credit deposit held) at (now (buf .entry)) ⌝ }
+    ensures { λ _. ⌜ length (accountLine account arrears credit deposit held) ≤ longestLine ⌝ }
 {
     let mut shown = [0u8; 20];
     let k = io::decimal(account as u64, &mut shown);
     let numbers = [arrears, credit, deposit, held];
-    line(buf, &shown[..k], &numbers)
+    line(buf, at, &shown[..k], &numbers)
 }
 
 // `end` and the count.
-pub fn end_line(buf: &mut [u8], count: u64) -> usize
-    ensures { λ r. ⌜ r ≡ lengthAfter (endLine count) (now (buf .entry)) ⌝ }
-    ensures { λ _. ⌜ now (buf .exit) ≡ bufferAfter (endLine count) (now (buf .entry)) ⌝ }
+pub fn end_line(buf: &mut [u8], at: usize, count: u64) -> usize
+    ensures { λ r. ⌜ (record { buffer = now (buf .exit); place = r }) ≡ writtenAt (endLine count) at (now (buf .entry)) ⌝ }
+    ensures { λ _. ⌜ length (endLine count) ≤ longestLine ⌝ }
 {
     let numbers = [count];
-    line(buf, b"end", &numbers)
+    line(buf, at, b"end", &numbers)
 }
 
 // `refused`, the refusal's number and the record at fault.
-pub fn refused_line(buf: &mut [u8], number: u64, record: u64) -> usize
-    ensures { λ r. ⌜ r ≡ lengthAfter (refusedLine number «record») (now (buf .entry)) ⌝ }
-    ensures { λ _. ⌜ now (buf .exit) ≡ bufferAfter (refusedLine number «record») (now (buf .entry)) ⌝ }
+pub fn refused_line(buf: &mut [u8], at: usize, number: u64, record: u64) -> usize
+    ensures { λ r. ⌜ (record { buffer = now (buf .exit); place = r }) ≡ writtenAt (refusedLine number «record») at (now (buf .entry)) ⌝ }
+    ensures { λ _. ⌜ length (refusedLine number «record») ≤ longestLine ⌝ }
 {
     let numbers = [number, record];
-    line(buf, b"refused", &numbers)
+    line(buf, at, b"refused", &numbers)
 }

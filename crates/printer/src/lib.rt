@@ -1,55 +1,71 @@
-// What the statement printer writes to standard output.
+// The statement printer.
 use book::Book;
 use book::slot;
-use entries::Refusal;
 use image::LoadAnswer;
 use image::Loaded;
-use lines::LONGEST;
+use image::load;
 use lines::account_line;
 use lines::end_line;
 use lines::refused_line;
 use queries::statement;
+ghost use mathlib.Core.Path.{_≡_};
+ghost use mathlib.Core.List.{_++_};
+ghost use Prim.Native.Nat.{_≤_};
+ghost use lib.ListN.{length, drop};
+ghost use Rattle.image.specs.Loads.{loadedReply};
+ghost use Rattle.printer.specs.Printed.{bookLines, printedOf, roomMost};
 
-// The line of an account, where it has entries.
-fn print_account(book: Book, account: u16) {
-    let a = slot(account);
-    let own = book.accounts[a];
-    if own.newest != 0 {
-        let answer = statement(book, account, 0);
-        let r = answer.reply();
-        let mut line = [0u8; LONGEST];
-        let n = account_line(&mut line, account, r.arrears, r.credit, r.deposit, r.held);
-        io::write_all(1, &line[..n]);
-    }
-}
+// The bytes that every text has room in: a line for each account, and one line more.
+pub const ROOM: usize = (Book::ACCOUNTS + 1) * lines::LONGEST;
 
-// A line for each account with entries, ascending, and the end line.
-fn print_book(book: Book) {
-    let mut account: u16 = 1;
-    while account <= Book::ACCOUNTS as u16 {
-        print_account(book, account);
+// Writes a line for each account with entries, ascending, and the end line, and gives their length.
+fn print_book(book: Book, text: &mut [u8]) -> usize
+    requires { ⌜ roomMost ≤ length (now text) ⌝ }
+    ensures { λ r. ⌜ (r ≡ length (bookLines book)) × (now (text .exit) ≡ bookLines book ++ drop r (now (text .entry))) ⌝ }
+{
+    let mut at = 0;
+    let mut account: u16 = 0;
+    while account < Book::ACCOUNTS as u16 {
         account += 1;
+        let a = slot(account);
+        let own = book.accounts[a];
+        if own.newest != 0 {
+            let answer = statement(book, account, 0);
+            let r = answer.reply();
+            at = account_line(text, at, account, r.arrears, r.credit, r.deposit, r.held);
+        }
     }
-    let mut line = [0u8; LONGEST];
-    let n = end_line(&mut line, book.count as u64);
-    io::write_all(1, &line[..n]);
+    end_line(text, at, book.count as u64)
 }
 
-// The line of a refused image.
-fn print_refused(refusal: Refusal, record: u16) {
-    let mut line = [0u8; LONGEST];
-    let n = refused_line(&mut line, refusal.number() as u64, record as u64);
-    io::write_all(1, &line[..n]);
-}
-
-// What the printer writes of a load.
-pub fn print_loaded(loaded: Loaded) {
+// Writes what the printer writes of a load over the start of a text, and gives its length.
+pub fn printed(loaded: Loaded, text: &mut [u8; ROOM]) -> usize
+    ensures { λ r. ⌜ (r ≡ length (printedOf (loadedReply loaded))) × (now (text .exit) ≡ printedOf (loadedReply loaded) ++ drop r (now (text .entry))) ⌝ }
+{
     let answer = loaded.answer;
     match answer {
         LoadAnswer::Accepted => {
             let book = loaded.book;
-            print_book(book);
+            print_book(book, text)
         }
-        LoadAnswer::Refused { refusal, record } => print_refused(refusal, record),
+        LoadAnswer::Refused { refusal, record } => {
+            refused_line(text, 0, refusal.number() as u64, record as u64)
+        }
     }
+}
+
+// Writes what the printer writes of a load to standard output.
+pub fn print_loaded(loaded: Loaded) {
+    let mut text = [0u8; ROOM];
+    let n = printed(loaded, &mut text);
+    io::write_all(1, &text[..n]);
+}
+
+// The printer: reads an image from standard input, loads it and writes what it gives. No contract can say what is read and written, so
+// what is proved is `load` of the bytes that were read and `printed` of what it gives.
+pub fn print_input() {
+    // One byte more than the longest image has, so that a longer one is noticed.
+    let mut image = [0u8; codec::LONGEST + 1];
+    let n = io::read_full(0, &mut image);
+    print_loaded(load(&image[..n]));
 }

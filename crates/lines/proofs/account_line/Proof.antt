@@ -1,18 +1,15 @@
 use Prim.Native.Nat.{_≤_}
-use mathlib.Core.Path.{_≡_, _∙_}
+use mathlib.Core.Path.{_≡_}
 use native.Mathlib.Omega.{arith}
 use lib.ListN.{take}
 use Rattle.lines.specs.Decimal.{digits}
-use Rattle.lines.proofs.Decimal.{decimal, at-most-twenty}
+use Rattle.lines.proofs.Decimal.{shown}
 use borrow.Author.Needs.{needs}
 use Rattle.lines.proofs.account_line.Statement.{statement}
 use Rattle.lines.proofs.account_line.Tie as tie
 
-few : (c : tie.After-decimal) → c .decimal .result ≤ 20
-few c = at-most-twenty (c .before .before .before .args .account) (c .decimal .result) (c .decimal .ensures .1 .0) (omega arith)
-
-shown : (c : tie.After-decimal) → take (c .decimal .result) (c .decimal .last .1 .0) ≡ digits (c .before .before .before .args .account)
-shown c = c .decimal .ensures .1 .1 ∙ decimal _ _ (c .decimal .ensures .1 .0)
+written : (c : tie.After-decimal) → (c .decimal .result ≤ 20) × (take (c .decimal .result) (c .decimal .last .1 .0) ≡ digits (c .before .before .before .args .account))
+written c = shown (c .before .before .before .args .account) (c .decimal .result) (c .decimal .last .1 .0) (omega arith) (c .decimal .ensures .1)
 
 decimal-requires : tie.Need-decimal-requires
 decimal-requires c κs = search needs
@@ -27,13 +24,13 @@ slice-aggregate-line-2 : tie.Need-slice-aggregate-line-2
 slice-aggregate-line-2 c = search needs
 
 line-requires : tie.Need-line-requires
-line-requires c κs = omega (arith, few (c .before .before .before), c .before .before .before .decimal .ensures .0 .1)
+line-requires c κs = omega (arith, written (c .before .before .before) .0, c .before .before .before .decimal .ensures .0 .1)
 
 same-length : tie.Need-same-length
 same-length c = search needs
 
 returns : tie.Need-returns
-returns c = rw (shown (c .before .before .before .before .before .before)) at (c .before .before .line .ensures)
+returns c = rw (written (c .before .before .before .before .before .before) .1) at (c .before .before .line .ensures)
 
 pub account-line-spec : {M : Type 1} → statement M
 account-line-spec =

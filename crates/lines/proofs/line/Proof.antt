@@ -1,46 +1,46 @@
-use Rattle.lines.proofs.Text.{front, next-number, finished, length-finished, too-short, written}
-use lib.ListN.{length, take, drop, set, length-set}
-use lib.Seq.{length-take-le}
-use Prim.Native.Nat.{_+_, _*_, _-_, _≤_, _<_}
-use mathlib.Core.Path.{_≡_, refl, sym, ap, _∙_}
-use mathlib.Core.List.{_++_}
+use Prim.Native.Nat.{_+_, _*_, _-_, _≤_}
+use mathlib.Core.Path.{_≡_, sym, _∙_}
+use mathlib.Core.List.{[], _∷_, _++_}
 use native.Mathlib.Omega.{arith}
+use denote.Ref.{now}
+use lib.ListN.{length, take, drop}
+use lib.Seq.{length-take-le}
+use Rattle.lines.specs.Lines.{newline, longestLine, numbersOf, lineOf}
+use Rattle.lines.proofs.Buffers.{Appended, appended}
+use Rattle.lines.proofs.Text.{next-number, finished}
 use borrow.Author.Needs.{needs}
-use Rattle.lines.specs.Lines.{numbersOf, lineOf}
 use Rattle.lines.proofs.line.Statement.{statement}
 use Rattle.lines.proofs.line.Tie as tie
 
 abbrev Inv-loop : tie.InvT-loop
-Inv-loop buf word numbers text₀ at₀ i₀ text at i = (i ≤ length numbers) × (length text ≡ 128) × (at ≤ length word + 21 * i) ×
-    (take at text ++ numbersOf (drop i numbers) ≡ lineOf word numbers)
+Inv-loop buf at word numbers text₀ n₀ i₀ t8 text n i = (i ≤ length numbers) × (length text ≡ longestLine) × (n ≤ length word + 21 * i) ×
+    (take n text ++ numbersOf (drop i numbers) ≡ lineOf word numbers)
 
 abbrev μ-loop : tie.MeasureT-loop
-μ-loop buf word numbers text₀ at₀ i₀ text at i = length numbers - i
+μ-loop buf at word numbers text₀ n₀ i₀ t8 text n i = length numbers - i
 
--- after the last number: the line and its length
-ended : (c : tie.After-loop Inv-loop μ-loop) → c .before .loop .i ≡ length (c .before .before .before .before .before .before .before .before .args .numbers .now)
-ended c = omega arith
+-- after the last number: the end of the line, the line and its length
+ended : (c : tie.After-put2 Inv-loop μ-loop) →
+    Appended (newline ∷ []) (c .before .before .before .before .loop .text) (c .put2 .last .0) (c .before .before .before .before .loop .n) (c .put2 .result)
+ended c = appended (newline ∷ []) (c .before .before .before .before .loop .text) (c .put2 .last .0) (c .before .before .before .before .loop .n) (c .put2 .result) (omega arith) (c .put2 .ensures)
 
-fits : (c : tie.After-loop Inv-loop μ-loop) → c .before .loop .at < length (c .before .loop .text)
-fits c = omega arith
+inside : (c : tie.After-put2 Inv-loop μ-loop) → c .put2 .result ≤ longestLine
+inside c = omega (arith, ended c .end)
 
-whole : (c : tie.After-loop Inv-loop μ-loop) →
-    take (c .before .loop .at + 1) (set (c .before .loop .text) (c .before .loop .at) 10) ≡ lineOf (c .before .before .before .before .before .before .before .before .args .word .now) (c .before .before .before .before .before .before .before .before .args .numbers .now)
-whole c = finished (c .before .before .before .before .before .before .before .before .args .word .now) (c .before .before .before .before .before .before .before .before .args .numbers .now) (c .before .loop .text) (c .before .loop .at) (c .before .loop .i) (fits c) (ended c) (c .before .loop .inv .3)
+whole : (c : tie.After-put2 Inv-loop μ-loop) → take (c .put2 .result) (c .put2 .last .0) ≡ lineOf (now (c .before .before .before .before .before .before .before .before .before .before .before .args .word)) (now (c .before .before .before .before .before .before .before .before .before .before .before .args .numbers))
+whole c = ended c .front ∙ finished (now (c .before .before .before .before .before .before .before .before .before .before .before .args .word)) (now (c .before .before .before .before .before .before .before .before .before .before .before .args .numbers)) (take (c .before .before .before .before .loop .n) (c .before .before .before .before .loop .text)) (c .before .before .before .before .loop .i) (omega arith) (c .before .before .before .before .loop .inv .3)
 
-long : (c : tie.After-loop Inv-loop μ-loop) → c .before .loop .at + 1 ≡ length (lineOf (c .before .before .before .before .before .before .before .before .args .word .now) (c .before .before .before .before .before .before .before .before .args .numbers .now))
-long c = length-finished (c .before .before .before .before .before .before .before .before .args .word .now) (c .before .before .before .before .before .before .before .before .args .numbers .now) (c .before .loop .text) (c .before .loop .at) (c .before .loop .i) (fits c) (ended c) (c .before .loop .inv .3)
+slice-aggregate-put : tie.Need-slice-aggregate-put Inv-loop μ-loop
+slice-aggregate-put c = search needs
 
-slice-aggregate-copy : tie.Need-slice-aggregate-copy Inv-loop μ-loop
-slice-aggregate-copy c = search needs
-
-copy-requires : tie.Need-copy-requires Inv-loop μ-loop
-copy-requires c κs = search needs
+put-requires : tie.Need-put-requires Inv-loop μ-loop
+put-requires c κs = search needs
 
 loop-holds : tie.Need-loop-holds Inv-loop μ-loop
 unfolding lineOf
-loop-holds c = let copied : take (c .before .copy .result) (c .before .copy .last .1 .0) ≡ c .before .before .before .before .before .before .args .word .now = front (c .before .copy .last .1 .0) (c .before .before .before .before .before .before .args .word .now) _ (c .before .copy .result) (c .before .copy .ensures .0) (c .before .copy .ensures .1) in
-    (omega arith, search needs, omega (arith, c .before .copy .ensures .0), rw copied refl)
+loop-holds c =
+    let a = appended (now (c .before .before .before .before .before .before .args .word)) _ (c .before .put .last .0) 0 (c .before .put .result) (omega arith) (c .before .put .ensures) in
+    (omega arith, search needs, omega (arith, a .end), rw (a .front))
 
 slice-aggregate-number : tie.Need-slice-aggregate-number Inv-loop μ-loop
 slice-aggregate-number c = search needs
@@ -65,32 +65,34 @@ loop-again c = (
   omega arith,
   search needs,
   omega (arith, c .before .number .ensures .0),
-  next-number (c .before .before .before .before .before .before .before .before .before .before .before .before .args .word .now) (c .before .before .before .before .before .before .before .before .before .before .before .before .args .numbers .now) (take (c .before .before .before .before .before .loop .at) (c .before .before .before .before .before .loop .text)) _ (c .before .before .before .before .before .loop .i) (omega arith) (c .before .before .before .before .before .loop .inv .3) (c .before .number .ensures .1),
+  next-number (now (c .before .before .before .before .before .before .before .before .before .before .before .before .args .word)) (now (c .before .before .before .before .before .before .before .before .before .before .before .before .args .numbers)) (take (c .before .before .before .before .before .loop .n) (c .before .before .before .before .before .loop .text)) _ (c .before .before .before .before .before .loop .i) (omega arith) (c .before .before .before .before .before .loop .inv .3) (c .before .number .ensures .1),
 )
 
-array-write-text : tie.Need-array-write-text Inv-loop μ-loop
-array-write-text c = omega arith
+slice-aggregate-put-2 : tie.Need-slice-aggregate-put-2 Inv-loop μ-loop
+slice-aggregate-put-2 c = search needs
 
-add-n : tie.Need-add-n Inv-loop μ-loop
-add-n c = search needs
+slice-aggregate-put-3 : tie.Need-slice-aggregate-put-3 Inv-loop μ-loop
+slice-aggregate-put-3 c = search needs
 
-returns : tie.Need-returns Inv-loop μ-loop
-returns c = too-short _ _ (omega (arith, long (c .before)))
+put-requires-2 : tie.Need-put-requires-2 Inv-loop μ-loop
+put-requires-2 c κs = search needs
 
 array-share-prefix-text : tie.Need-array-share-prefix-text Inv-loop μ-loop
-array-share-prefix-text c = rw length-set (omega arith)
+array-share-prefix-text c = omega (arith, inside (c .before .before))
 
-slice-aggregate-copy-2 : tie.Need-slice-aggregate-copy-2 Inv-loop μ-loop
-slice-aggregate-copy-2 c = sym (length-take-le _ _ (rw length-set (omega arith)))
+slice-aggregate-put-4 : tie.Need-slice-aggregate-put-4 Inv-loop μ-loop
+slice-aggregate-put-4 c = sym (length-take-le _ _ (omega (arith, inside (c .before .before .before))))
 
-copy-requires-2 : tie.Need-copy-requires-2 Inv-loop μ-loop
-copy-requires-2 c κs = rw (whole (c .before .before .before)) (omega (arith, long (c .before .before .before)))
+put-requires-3 : tie.Need-put-requires-3 Inv-loop μ-loop
+put-requires-3 c κs = search needs
 
 same-length : tie.Need-same-length Inv-loop μ-loop
 same-length c = search needs
 
-returns-2 : tie.Need-returns-2 Inv-loop μ-loop
-returns-2 c = written _ _ _ _ (omega (arith, long (c .before .before .before .before .before .before))) (c .before .before .copy2 .ensures .0 ∙ ap length (whole (c .before .before .before .before .before .before))) (rw (whole (c .before .before .before .before .before .before)) at (c .before .before .copy2 .ensures .1))
+returns : tie.Need-returns Inv-loop μ-loop
+returns c =
+    let l = inside (c .before .before .before .before .before .before) in
+    (rw (whole (c .before .before .before .before .before .before)) at (c .before .before .put3 .ensures), rw (← whole (c .before .before .before .before .before .before)) (omega (arith, length-take-le (c .before .before .before .before .before .before .put2 .result) (c .before .before .before .before .before .before .put2 .last .0) (omega arith))))
 
 pub line-spec : {M : Type 1} → statement M
 line-spec =
@@ -98,8 +100,8 @@ line-spec =
     (tie.spec
     Inv-loop
     μ-loop
-    slice-aggregate-copy
-    copy-requires
+    slice-aggregate-put
+    put-requires
     loop-holds
     slice-aggregate-number
     mul-number
@@ -108,11 +110,11 @@ line-spec =
     add-i
     loop-less
     loop-again
-    array-write-text
-    add-n
-    returns
+    slice-aggregate-put-2
+    slice-aggregate-put-3
+    put-requires-2
     array-share-prefix-text
-    slice-aggregate-copy-2
-    copy-requires-2
+    slice-aggregate-put-4
+    put-requires-3
     same-length
-    returns-2)
+    returns)

@@ -1,37 +1,73 @@
-use mathlib.Core.Path.{sym}
-use lib.Seq.{length-take-le}
-use Rattle.lines.proofs.Text.{within}
+use Prim.Native.Nat.{_+_, _*_, _-_, _≤_}
+use mathlib.Core.Path.{_≡_, refl, _∙_}
+use native.Mathlib.Omega.{arith}
+use denote.Ref.{now}
+use lib.ListN.{length}
+use Rattle.lines.specs.Lines.{longestLine, endLine}
+use Rattle.lines.specs.Buffers.{writtenAt}
+use Rattle.lines.proofs.Buffers.{written, Holds, appended, holds-none, holds-more, holds-length, holds-all}
+use Rattle.book.specs.Fresh.{accountsMost}
+use Rattle.book.proofs.Chain.{slot-inside}
+use Rattle.printer.specs.Printed.{statementLine, accountLines}
+use Rattle.printer.proofs.Accounts.{turn-more, turn-same}
 use borrow.Author.Needs.{needs}
-use Prim.Native.Nat.{_-_}
 use Rattle.printer.proofs.print_book.Statement.{statement}
 use Rattle.printer.proofs.print_book.Tie as tie
 
 abbrev Inv-loop : tie.InvT-loop
-Inv-loop book account₀ account = Unit {0}
+Inv-loop text₀ book at₀ account₀ text at account = (account ≤ accountsMost) × (length text ≡ length text₀) × (at ≤ longestLine * account) ×
+    Holds (accountLines book account) text₀ text at
 
 abbrev μ-loop : tie.MeasureT-loop
-μ-loop book account₀ account = 129 - account
+μ-loop text₀ book at₀ account₀ text at account = accountsMost - account
 
 loop-holds : tie.Need-loop-holds Inv-loop μ-loop
-loop-holds c = search needs
+unfolding accountLines
+loop-holds c = (omega arith, refl, omega arith, holds-none (now (c .before .args .text)))
 
 cast-loop : tie.Need-cast-loop Inv-loop μ-loop
 cast-loop c = search needs
 
-print-account-requires : tie.Need-print-account-requires Inv-loop μ-loop
-print-account-requires c κs = search needs
-
 add-account : tie.Need-add-account Inv-loop μ-loop
 add-account c = search needs
 
+slot-requires : tie.Need-slot-requires Inv-loop μ-loop
+slot-requires c κs = search needs
+
+mul-own : tie.Need-mul-own Inv-loop μ-loop
+mul-own c = omega (arith, slot-inside (c .before .before .loop .account + 1))
+
+element-copy-out-own : tie.Need-element-copy-out-own Inv-loop μ-loop
+element-copy-out-own c = omega (arith, slot-inside (c .before .before .loop .account + 1))
+
+statement-requires : tie.Need-statement-requires Inv-loop μ-loop
+statement-requires c κs = search needs
+
+reply-requires : tie.Need-reply-requires Inv-loop μ-loop
+reply-requires c κs = search needs
+
+account-line-requires : tie.Need-account-line-requires Inv-loop μ-loop
+account-line-requires c κs = search needs
+
 loop-less : tie.Need-loop-less Inv-loop μ-loop
-loop-less c = search needs
+loop-less c = omega arith
 
 loop-again : tie.Need-loop-again Inv-loop μ-loop
-loop-again c = search needs
+loop-again c =
+    let l = c .before .before .before .before .before .before .before .before .before .before .before .loop in
+    let line = statementLine (l .account + 1) (c .before .before .before .before .reply .result) in
+    let w = c .before .before .account-line in
+    let put : written (w .last .0) (w .result) ≡ writtenAt line (l .at) (l .text) = w .ensures .0 in
+    let room : l .at + length line ≤ length (l .text) = omega (arith, w .ensures .1) in
+    (omega arith, search needs, omega (arith, appended line (l .text) (w .last .0) (l .at) (w .result) room put .end, w .ensures .1), turn-more (c .before .before .before .before .before .before .before .before .before .before .before .before .before .args .t1) (l .account) (c .before .before .before .before .before .before .before .before .before .slot .result) (c .before .before .before .before .before .before .before .before .before .slot .ensures) (c .before .before .before .before .reply .result) (now (c .before .before .before .before .before .before .before .before .before .before .before .before .before .args .text)) (l .text) (w .last .0) (l .at) (w .result) (c .before .before .before .before .before .before .if1 .taken) (c .before .before .before .before .reply .ensures ∙ c .before .before .before .before .before .statement .ensures) room (search needs) (l .inv .3) put)
 
-slice-aggregate-end-line : tie.Need-slice-aggregate-end-line Inv-loop μ-loop
-slice-aggregate-end-line c = search needs
+loop-less-2 : tie.Need-loop-less-2 Inv-loop μ-loop
+loop-less-2 c = omega arith
+
+loop-again-2 : tie.Need-loop-again-2 Inv-loop μ-loop
+loop-again-2 c =
+    let l = c .before .before .before .before .before .loop in
+    (omega arith, omega arith, omega arith, turn-same (c .before .before .before .before .before .before .before .args .t1) (l .account) (c .before .before .before .slot .result) (c .before .before .before .slot .ensures) (now (c .before .before .before .before .before .before .before .args .text)) (l .text) (l .at) (c .if1 .left) (l .inv .3))
 
 cast-end-line : tie.Need-cast-end-line Inv-loop μ-loop
 cast-end-line c = search needs
@@ -39,17 +75,17 @@ cast-end-line c = search needs
 end-line-requires : tie.Need-end-line-requires Inv-loop μ-loop
 end-line-requires c κs = search needs
 
-array-share-prefix-line : tie.Need-array-share-prefix-line Inv-loop μ-loop
-array-share-prefix-line c = within _ _ _ _ (c .before .end-line .ensures .0) (c .before .end-line .ensures .1)
-
-slice-aggregate-write-all : tie.Need-slice-aggregate-write-all Inv-loop μ-loop
-slice-aggregate-write-all c = sym (length-take-le _ _ (within _ _ _ _ (c .before .before .end-line .ensures .0) (c .before .before .end-line .ensures .1)))
-
-write-all-requires : tie.Need-write-all-requires Inv-loop μ-loop
-write-all-requires c κs = search needs
+same-length : tie.Need-same-length Inv-loop μ-loop
+same-length c = search needs
 
 returns : tie.Need-returns Inv-loop μ-loop
-returns c = search needs
+returns c =
+    let l = c .before .before .before .before .before .loop in
+    let b = c .before .before .before .before .before .before .before .args .t1 in
+    let w = c .before .before .end-line in
+    let all : l .account ≡ accountsMost = omega arith in
+    let k = holds-more (accountLines b accountsMost) (endLine (b .count)) (now (c .before .before .before .before .before .before .before .args .text)) (l .text) (w .last .0) (l .at) (w .result) (omega (arith, w .ensures .1)) (search needs) (rw all at (l .inv .3)) (w .ensures .0) in
+    (holds-length _ _ _ _ k, holds-all _ _ _ _ k)
 
 pub print-book-spec : {M : Type 1} → statement M
 print-book-spec =
@@ -59,14 +95,18 @@ print-book-spec =
     μ-loop
     loop-holds
     cast-loop
-    print-account-requires
     add-account
+    slot-requires
+    mul-own
+    element-copy-out-own
+    statement-requires
+    reply-requires
+    account-line-requires
     loop-less
     loop-again
-    slice-aggregate-end-line
+    loop-less-2
+    loop-again-2
     cast-end-line
     end-line-requires
-    array-share-prefix-line
-    slice-aggregate-write-all
-    write-all-requires
+    same-length
     returns)
