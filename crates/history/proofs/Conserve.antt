@@ -13,7 +13,7 @@ use Rattle.entries.specs.declared.kinds.Kind.the-variants as kind
 use Rattle.rules.specs.Formulas.{billed, interest}
 use Rattle.rules.specs.Moves.{settles, leaves}
 use Rattle.history.specs.History.{History, naming, names, found, find, Fate, fateOf, posted, refundOf, change, fate, Balance, Move, stays, charges, credits, refunds, deposits, returns, retains, moved, moveBy, balance, Amounts, answered, amounts, judge, filter, onAccount, entriesOf, total, amountOf, standingAmount, heldOf, addedUp, toArrears, refundsPaid, customers}
-use Rattle.history.specs.Laws.{Valid, empty, joins, In, newest, older, sumsOf, Conserved, Divided}
+use Rattle.history.specs.Laws.{Valid, empty, joins, In, newest, older, sumsBy, sumsOf, Conserved, Divided}
 use Rattle.history.proofs.Accept.{Sort, as-contribution, as-added, as-bill, as-payment, as-deposit, as-return, as-expiry, as-correction, correctable, sorted, Role, alone, upon, role}
 use Rattle.history.proofs.Names.{pointed, hit, fate-new, customers-new, Misses, none, miss, Hits, first, later, plain, misses-kind, hits, names-found, names-points, fate-cases, fate-miss, fate-hit, customers-miss, customers-hit, customers-other}
 use Rattle.history.proofs.Moves.{move-contribution, move-bill, move-payment, move-deposit, move-return, move-added, move-expiry, move-correction, corrects, restates-cases}
@@ -45,81 +45,63 @@ module _ (f : Kind → Raw → Fate → ℕ) (c : Raw) (h : History) (p : Raw �
 abbrev pub postedAs : Kind → Raw → Fate
 postedAs k e = fateOf (e .amount) 0 0 false (cond (sameOf k kind.Bill) (billed (e .amount) (e .b) (e .a)) (e .amount)) false
 
--- the five sums over entries
-record EntrySums : Type 0 where
-  contributed : ℕ
-  paid : ℕ
-  deposited : ℕ
-  billed : ℕ
-  held : ℕ
+-- how the sums over entries move: the entry's own part is added, and of what it names the new part takes the old one's place
+abbrev Reading : Type 0
+Reading = Kind → Raw → Fate → ℕ
 
-abbrev each : ((Kind → Raw → Fate → ℕ) → ℕ) → EntrySums
-each s = record { contributed = s (amountOf kind.Contribution); paid = s (standingAmount kind.Payment); deposited = s (amountOf kind.Deposit); billed = s (standingAmount kind.Bill); held = s heldOf }
+abbrev Moves : (s s′ own old new : Reading → ℕ) → Reading → Type 0
+Moves s s′ own old new f = s′ f + old f ≡ own f + s f + new f
 
--- how the sums move: the entry's own part is added, and of what it names the new part takes the old one's place
-record Shifted (s s′ own old new : EntrySums) : Type 0 where
-  contributed : s′ .contributed + old .contributed ≡ own .contributed + s .contributed + new .contributed
-  paid : s′ .paid + old .paid ≡ own .paid + s .paid + new .paid
-  deposited : s′ .deposited + old .deposited ≡ own .deposited + s .deposited + new .deposited
-  billed : s′ .billed + old .billed ≡ own .billed + s .billed + new .billed
-  held : s′ .held + old .held ≡ own .held + s .held + new .held
+record Shifted (s s′ own old new : Reading → ℕ) : Type 0 where
+  contributions : Moves s s′ own old new (amountOf kind.Contribution)
+  payments : Moves s s′ own old new (standingAmount kind.Payment)
+  deposits : Moves s s′ own old new (amountOf kind.Deposit)
+  bills : Moves s s′ own old new (standingAmount kind.Bill)
+  held : Moves s s′ own old new heldOf
 
-abbrev shift : (s s′ own old new : (Kind → Raw → Fate → ℕ) → ℕ) →
-    ((f : Kind → Raw → Fate → ℕ) → s′ f + old f ≡ own f + s f + new f) → Shifted (each s) (each s′) (each own) (each old) (each new)
+abbrev shift : (s s′ own old new : Reading → ℕ) → ((f : Reading) → Moves s s′ own old new f) → Shifted s s′ own old new
 shift s s′ own old new e =
-    record { contributed = e (amountOf kind.Contribution); paid = e (standingAmount kind.Payment); deposited = e (amountOf kind.Deposit); billed = e (standingAmount kind.Bill); held = e heldOf }
+    record { contributions = e (amountOf kind.Contribution); payments = e (standingAmount kind.Payment); deposits = e (amountOf kind.Deposit); bills = e (standingAmount kind.Bill); held = e heldOf }
 
--- the amounts added up posting by posting
-abbrev plus : Amounts → Amounts → Amounts
-plus x u =
-    record {
-      settled = x .settled + u .settled;
-      paidOut = x .paidOut + u .paidOut;
-      retained = x .retained + u .retained;
-      interest = x .interest + u .interest;
-    }
+abbrev nil : Reading → ℕ
+nil f = 0
 
-abbrev Law : EntrySums → Amounts → Balance → Type 0
-Law s u b =
-    Conserved
-    (record { contributions = s .contributed; payments = s .paid; deposits = s .deposited; interest = u .interest; arrears = b .arrears; bills = s .billed; paidOut = u .paidOut; retained = u .retained; held = s .held; deposit = b .deposit; credit = b .credit })
-
-abbrev nil : EntrySums
-nil = each (λ f. 0)
+abbrev part : Kind → Raw → Fate → Reading → ℕ
+part k e g f = f k e g
 
 -- the law, move by move, on plain numbers
-module _ (s s′ : EntrySums) (u : Amounts) (b : Balance) (l : Law s u b) (r : Raw) where
+module _ (s s′ : Reading → ℕ) (u : (Amounts → ℕ) → ℕ) (b : Balance) (l : Conserved (sumsBy s u b)) (r : Raw) where
   abbrev After : Move → Type 0
-  After m = Law s′ (plus (answered m b) u) (moved m b)
+  After m = Conserved (sumsBy s′ (λ f. f (answered m b) + u f) (moved m b))
 
-  n-contribution : (g : Fate) → g .held ≡ r .amount → Shifted s s′ (each (λ f. f kind.Contribution r g)) nil nil → After stays
+  n-contribution : (g : Fate) → g .held ≡ r .amount → Shifted s s′ (part kind.Contribution r g) nil nil → After stays
   n-contribution g q m = omega arith
 
-  n-bill : (g : Fate) (x : ℕ) → g .standing ≡ x → Shifted s s′ (each (λ f. f kind.Bill r g)) nil nil → After (charges x)
+  n-bill : (g : Fate) (x : ℕ) → g .standing ≡ x → Shifted s s′ (part kind.Bill r g) nil nil → After (charges x)
   n-bill g x q m = omega arith
 
-  n-payment : (g : Fate) → g .standing ≡ r .amount → Shifted s s′ (each (λ f. f kind.Payment r g)) nil nil → After (credits (r .amount))
+  n-payment : (g : Fate) → g .standing ≡ r .amount → Shifted s s′ (part kind.Payment r g) nil nil → After (credits (r .amount))
   n-payment g q m = omega arith
 
-  n-deposit : (g : Fate) (rate day : ℕ) → b .deposit ≡ 0 → Shifted s s′ (each (λ f. f kind.Deposit r g)) nil nil →
+  n-deposit : (g : Fate) (rate day : ℕ) → b .deposit ≡ 0 → Shifted s s′ (part kind.Deposit r g) nil nil →
       After (deposits (r .amount) rate day)
   n-deposit g rate day q m = omega arith
 
-  n-return : (g : Fate) (i : ℕ) → Shifted s s′ (each (λ f. f kind.DepositReturn r g)) nil nil → After (returns i)
+  n-return : (g : Fate) (i : ℕ) → Shifted s s′ (part kind.DepositReturn r g) nil nil → After (returns i)
   n-return g i m = omega arith
 
   module _ (e : Raw) (f′ g : Fate) where
     n-added : (x : ℕ) → x ≤ g .held →
-        Shifted s s′ (each (λ f. f kind.AddedCustomer r f′)) (each (λ f. f kind.Contribution e g)) (each (λ f. f kind.Contribution e (fateOf (g .held - x) (g .retained) (g .added + 1) (g .closed) (g .standing) (g .corrected)))) →
+        Shifted s s′ (part kind.AddedCustomer r f′) (part kind.Contribution e g) (part kind.Contribution e (fateOf (g .held - x) (g .retained) (g .added + 1) (g .closed) (g .standing) (g .corrected))) →
         After (refunds x)
     n-added x q m = omega arith
 
-    n-expiry : Shifted s s′ (each (λ f. f kind.Expiry r f′)) (each (λ f. f kind.Contribution e g)) (each (λ f. f kind.Contribution e (change kind.Expiry r e g))) →
+    n-expiry : Shifted s s′ (part kind.Expiry r f′) (part kind.Contribution e g) (part kind.Contribution e (change kind.Expiry r e g)) →
         After (retains (g .held))
     n-expiry m = omega arith
 
     n-correction : (bill : Bool) →
-        Shifted s s′ (each (λ f. f kind.Correction r f′)) (each (λ f. f (correctable bill) e g)) (each (λ f. f (correctable bill) e (change kind.Correction r e g))) →
+        Shifted s s′ (part kind.Correction r f′) (part (correctable bill) e g) (part (correctable bill) e (change kind.Correction r e g)) →
         After (corrects bill (g .standing) (r .amount))
     n-correction true m = restates-cases After (g .standing) (r .amount) (λ q. omega arith) (λ q. omega arith)
     n-correction false m = restates-cases After (r .amount) (g .standing) (λ q. omega arith) (λ q. omega arith)
@@ -150,32 +132,26 @@ module _ {h : History} (v : Valid h) (r : Raw) (j : judge h r ≡ 0) where
   private-same : eqb (r .account) (r .account) ≡ true
   private-same = eq-eqb (r .account) (r .account) refl
 
-  abbrev sums : History → EntrySums
-  sums g = each (λ f. total f g (entriesOf g (r .account)))
+  abbrev sums : History → Reading → ℕ
+  sums g f = total f g (entriesOf g (r .account))
 
-  abbrev ups : History → Amounts
-  ups g =
-      record {
-        settled = addedUp (λ (x : Amounts). x .settled) g (r .account);
-        paidOut = addedUp (λ (x : Amounts). x .paidOut) g (r .account);
-        retained = addedUp (λ (x : Amounts). x .retained) g (r .account);
-        interest = addedUp (λ (x : Amounts). x .interest) g (r .account);
-      }
+  abbrev ups : History → (Amounts → ℕ) → ℕ
+  ups g f = addedUp f g (r .account)
 
   abbrev b : Balance
   b = balance h (r .account)
 
-  here-plain : naming (kindOf (r .kind)) ≡ false → Shifted (sums h) (sums (r ∷ h)) (each (λ f. f (kindOf (r .kind)) r (posted r))) nil nil
+  here-plain : naming (kindOf (r .kind)) ≡ false → Shifted (sums h) (sums (r ∷ h)) (part (kindOf (r .kind)) r (posted r)) nil nil
   here-plain k =
-      shift (λ f. total f h (entriesOf h (r .account))) (λ f. total f (r ∷ h) (entriesOf (r ∷ h) (r .account))) (λ f. f (kindOf (r .kind)) r (posted r)) (λ f. 0) (λ f. 0)
+      shift (sums h) (sums (r ∷ h)) (part (kindOf (r .kind)) r (posted r)) nil nil
       (λ f. rw (total-filter, private-same, total-miss f r h (onAccount (r .account)) (misses-kind r k h), fate-new v r j) (omega arith))
 
   here-named : naming (kindOf (r .kind)) ≡ true → (i : ℕ) (e : Raw) → find h r ≡ found i e →
-      Shifted (sums h) (sums (r ∷ h)) (each (λ f. f (kindOf (r .kind)) r (fate (r ∷ h) r))) (each (λ f. f (kindOf (e .kind)) e (fate h e)))
-      (each (λ f. f (kindOf (e .kind)) e (change (kindOf (r .kind)) r e (fate h e))))
+      Shifted (sums h) (sums (r ∷ h)) (part (kindOf (r .kind)) r (fate (r ∷ h) r)) (part (kindOf (e .kind)) e (fate h e))
+      (part (kindOf (e .kind)) e (change (kindOf (r .kind)) r e (fate h e)))
   here-named k i e q =
-      shift (λ f. total f h (entriesOf h (r .account))) (λ f. total f (r ∷ h) (entriesOf (r ∷ h) (r .account))) (λ f. f (kindOf (r .kind)) r (fate (r ∷ h) r))
-      (λ f. f (kindOf (e .kind)) e (fate h e)) (λ f. f (kindOf (e .kind)) e (change (kindOf (r .kind)) r e (fate h e)))
+      shift (sums h) (sums (r ∷ h)) (part (kindOf (r .kind)) r (fate (r ∷ h) r))
+      (part (kindOf (e .kind)) e (fate h e)) (part (kindOf (e .kind)) e (change (kindOf (r .kind)) r e (fate h e)))
       (λ f. rw (total-filter, private-same) (let c = rw private-same at (changed v r j (r .account) k i e q f) in omega arith))
 
   balance-after : balance (r ∷ h) (r .account) ≡ moved (moveBy h r b) b
@@ -186,14 +162,14 @@ module _ {h : History} (v : Valid h) (r : Raw) (j : judge h r ≡ 0) where
   unfolding addedUp amounts
   added-after f = rw private-same
 
-  from-move : (m : Move) → moveBy h r b ≡ m → Law (sums (r ∷ h)) (plus (answered m b) (ups h)) (moved m b) → Conserved (sumsOf (r ∷ h) (r .account))
+  from-move : (m : Move) → moveBy h r b ≡ m → Conserved (sumsBy (sums (r ∷ h)) (λ f. f (answered m b) + ups h f) (moved m b)) → Conserved (sumsOf (r ∷ h) (r .account))
   from-move m q l =
       rw (balance-after, added-after (λ (x : Amounts). x .interest), added-after (λ (x : Amounts). x .paidOut), added-after (λ (x : Amounts). x .retained), q) l
 
   own : Conserved (sumsOf h (r .account)) → Sort h r → Conserved (sumsOf (r ∷ h) (r .account))
   own l (as-contribution k) =
       from-move stays (move-contribution h r b k)
-      (n-contribution (sums h) (sums (r ∷ h)) (ups h) b l r (posted r) refl (rw k at (here-plain (ap naming k))))
+      (n-contribution (sums h) (sums (r ∷ h)) (ups h) b l r (postedAs kind.Contribution r) refl (rw k at (here-plain (ap naming k))))
   own l (as-added k i e f c d) =
       let x = refundOf r e (fate h e) in
       from-move (refunds x) (move-added h r b i e f k)
@@ -206,11 +182,11 @@ module _ {h : History} (v : Valid h) (r : Raw) (j : judge h r ≡ 0) where
       (n-payment (sums h) (sums (r ∷ h)) (ups h) b l r (postedAs kind.Payment r) refl (rw k at (here-plain (ap naming k))))
   own l (as-deposit k n a) =
       from-move (deposits (r .amount) (r .a) (r .day)) (move-deposit h r b k)
-      (n-deposit (sums h) (sums (r ∷ h)) (ups h) b l r (posted r) (r .a) (r .day) n (rw k at (here-plain (ap naming k))))
+      (n-deposit (sums h) (sums (r ∷ h)) (ups h) b l r (postedAs kind.Deposit r) (r .a) (r .day) n (rw k at (here-plain (ap naming k))))
   own l (as-return k) =
       let x = interest (b .deposit) (b .rate) (r .day - b .deposited) in
       from-move (returns x) (move-return h r b k)
-      (n-return (sums h) (sums (r ∷ h)) (ups h) b l r (posted r) x (rw k at (here-plain (ap naming k))))
+      (n-return (sums h) (sums (r ∷ h)) (ups h) b l r (postedAs kind.DepositReturn r) x (rw k at (here-plain (ap naming k))))
   own l (as-expiry k i e f c o) =
       from-move (retains (fate h e .held)) (move-expiry h r b i e f k)
       (n-expiry (sums h) (sums (r ∷ h)) (ups h) b l r e (fate (r ∷ h) r) (fate h e) (rw (k, c) at (here-named (ap naming k) i e f)))
