@@ -11,8 +11,7 @@ use Rattle.entries.specs.declared.raw.Raw.{Raw}
 use Rattle.entries.specs.declared.kinds.Kind.{Kind}
 use Rattle.entries.specs.declared.kinds.Kind.the-variants as kind
 use Rattle.rules.specs.Formulas.{billed, interest}
-use Rattle.rules.specs.Moves.{settles, leaves}
-use Rattle.history.specs.History.{History, naming, names, found, find, Fate, fateOf, posted, refundOf, change, fate, Balance, Move, stays, charges, credits, refunds, deposits, returns, retains, moved, moveBy, balance, Amounts, answered, amounts, judge, filter, onAccount, entriesOf, total, amountOf, standingAmount, heldOf, addedUp, toArrears, refundsPaid, customers}
+use Rattle.history.specs.History.{History, naming, names, found, find, Fate, fateOf, posted, refundOf, change, fate, Balance, Move, stays, charges, credits, refunds, deposits, returns, retains, moved, moveBy, balance, Amounts, answered, amounts, judge, filter, onAccount, entriesOf, total, amountOf, standingAmount, heldOf, addedUp, customers}
 use Rattle.history.specs.Laws.{Valid, empty, joins, In, newest, older, sumsBy, sumsOf, Conserved, Divided}
 use Rattle.history.proofs.Accept.{Sort, as-contribution, as-added, as-bill, as-payment, as-deposit, as-return, as-expiry, as-correction, correctable, sorted, Role, alone, upon, role}
 use Rattle.history.proofs.Names.{pointed, hit, fate-new, customers-new, Misses, none, miss, Hits, first, later, plain, misses-kind, hits, names-found, names-points, fate-cases, fate-miss, fate-hit, customers-miss, customers-hit, customers-other}
@@ -234,16 +233,11 @@ module _ {h : History} (v : Valid h) (r : Raw) (j : judge h r ≡ 0) where
   divided-miss e n l =
       rw (fate-miss r h e n, customers-miss (λ (x : Amounts). x .settled) r h e n, customers-miss (λ (x : Amounts). x .paidOut) r h e n, customers-miss (λ (x : Amounts). 1) r h e n) l
 
-  n-refunded : (own x arrears paid old held retained : ℕ) → own ≡ paid + old + held + retained → x ≤ held →
-      own ≡ (settles x arrears + paid) + (leaves x arrears + old) + (held - x) + retained
-  n-refunded own x arrears paid old held retained l q = omega arith
-
   divided-added : (e : Raw) (i : ℕ) → kindOf (r .kind) ≡ kind.AddedCustomer → find h r ≡ found i e → Parted h e → Parted (r ∷ h) e
   unfolding amounts
   divided-added e i k f l =
       let p = hit v r i e f .aimed in
       let b = balance h (r .account) in
-      let x = refundOf r e (fate h e) in
       rw (
         fate-hit r h e (names-points r e (ap naming k) p),
         customers-hit (λ (x : Amounts). x .settled) r h e k p,
@@ -252,7 +246,7 @@ module _ {h : History} (v : Valid h) (r : Raw) (j : judge h r ≡ 0) where
         move-added h r b i e f k,
         k,
       )
-      (n-refunded (e .amount) x (b .arrears) (toArrears h e) (refundsPaid h e) (fate h e .held) (fate h e .retained) (l .0) (omega arith), omega arith)
+      (omega arith)
 
   divided-expired : (e : Raw) → kindOf (r .kind) ≡ kind.Expiry → names r e ≡ true → fate h e .closed ≡ false → Parted h e → Parted (r ∷ h) e
   divided-expired e k n o l =
