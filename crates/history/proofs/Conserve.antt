@@ -1,6 +1,6 @@
 -- An account's sums and amounts are conserved, and so is each contribution.
 use mathlib.Core.Path.{_≡_, refl, sym, ap, _∙_, subst}
-use Prim.Native.Nat.{ℕ, _+_, _-_, _≤_}
+use Prim.Native.Nat.{ℕ, _+_, _-_}
 use native.Mathlib.Omega.{arith}
 use mathlib.Core.Bool.{Bool, true, false, cond, true≢false}
 use mathlib.Core.List.{[], _∷_}
@@ -12,7 +12,7 @@ use Rattle.entries.specs.declared.kinds.Kind.{Kind}
 use Rattle.entries.specs.declared.kinds.Kind.the-variants as kind
 use Rattle.rules.specs.Formulas.{billed, interest}
 use Rattle.history.specs.History.{History, naming, names, found, find, Fate, fateOf, posted, refundOf, change, fate, Balance, Move, stays, charges, credits, refunds, deposits, returns, retains, moved, moveBy, balance, Amounts, answered, amounts, judge, filter, onAccount, entriesOf, total, amountOf, standingAmount, heldOf, addedUp, customers}
-use Rattle.history.specs.Laws.{Valid, empty, joins, In, newest, older, sumsBy, sumsOf, Conserved, Divided}
+use Rattle.history.specs.Laws.{Valid, empty, joins, In, newest, older, Sums, sumsBy, sumsOf, Conserved, Divided}
 use Rattle.history.proofs.Accept.{Sort, as-contribution, as-added, as-bill, as-payment, as-deposit, as-return, as-expiry, as-correction, correctable, sorted, Role, alone, upon, role}
 use Rattle.history.proofs.Names.{pointed, hit, fate-new, customers-new, Misses, none, miss, Hits, first, later, plain, misses-kind, hits, names-found, names-points, fate-cases, fate-miss, fate-hit, customers-miss, customers-hit, customers-other}
 use Rattle.history.proofs.Moves.{move-contribution, move-bill, move-payment, move-deposit, move-return, move-added, move-expiry, move-correction, corrects, restates-cases}
@@ -67,43 +67,6 @@ nil f = 0
 
 abbrev part : Kind → Raw → Fate → Reading → ℕ
 part k e g f = f k e g
-
--- the law, move by move, on plain numbers
-module _ (s s′ : Reading → ℕ) (u : (Amounts → ℕ) → ℕ) (b : Balance) (l : Conserved (sumsBy s u b)) (r : Raw) where
-  abbrev After : Move → Type 0
-  After m = Conserved (sumsBy s′ (λ f. f (answered m b) + u f) (moved m b))
-
-  n-contribution : (g : Fate) → g .held ≡ r .amount → Shifted s s′ (part kind.Contribution r g) nil nil → After stays
-  n-contribution g q m = omega arith
-
-  n-bill : (g : Fate) (x : ℕ) → g .standing ≡ x → Shifted s s′ (part kind.Bill r g) nil nil → After (charges x)
-  n-bill g x q m = omega arith
-
-  n-payment : (g : Fate) → g .standing ≡ r .amount → Shifted s s′ (part kind.Payment r g) nil nil → After (credits (r .amount))
-  n-payment g q m = omega arith
-
-  n-deposit : (g : Fate) (rate day : ℕ) → b .deposit ≡ 0 → Shifted s s′ (part kind.Deposit r g) nil nil →
-      After (deposits (r .amount) rate day)
-  n-deposit g rate day q m = omega arith
-
-  n-return : (g : Fate) (i : ℕ) → Shifted s s′ (part kind.DepositReturn r g) nil nil → After (returns i)
-  n-return g i m = omega arith
-
-  module _ (e : Raw) (f′ g : Fate) where
-    n-added : (x : ℕ) → x ≤ g .held →
-        Shifted s s′ (part kind.AddedCustomer r f′) (part kind.Contribution e g) (part kind.Contribution e (fateOf (g .held - x) (g .retained) (g .added + 1) (g .closed) (g .standing) (g .corrected))) →
-        After (refunds x)
-    n-added x q m = omega arith
-
-    n-expiry : Shifted s s′ (part kind.Expiry r f′) (part kind.Contribution e g) (part kind.Contribution e (change kind.Expiry r e g)) →
-        After (retains (g .held))
-    n-expiry m = omega arith
-
-    n-correction : (bill : Bool) →
-        Shifted s s′ (part kind.Correction r f′) (part (correctable bill) e g) (part (correctable bill) e (change kind.Correction r e g)) →
-        After (corrects bill (g .standing) (r .amount))
-    n-correction true m = restates-cases After (g .standing) (r .amount) (λ q. omega arith) (λ q. omega arith)
-    n-correction false m = restates-cases After (r .amount) (g .standing) (λ q. omega arith) (λ q. omega arith)
 
 module _ {h : History} (v : Valid h) (r : Raw) (j : judge h r ≡ 0) (a : ℕ) where
   -- the sums over the older entries after one that names nothing, and after one that does
@@ -161,37 +124,46 @@ module _ {h : History} (v : Valid h) (r : Raw) (j : judge h r ≡ 0) where
   unfolding addedUp amounts
   added-after f = rw private-same
 
-  from-move : (m : Move) → moveBy h r b ≡ m → Conserved (sumsBy (sums (r ∷ h)) (λ f. f (answered m b) + ups h f) (moved m b)) → Conserved (sumsOf (r ∷ h) (r .account))
-  from-move m q l =
-      rw (balance-after, added-after (λ (x : Amounts). x .interest), added-after (λ (x : Amounts). x .paidOut), added-after (λ (x : Amounts). x .retained), q) l
+  -- the account's sums after a move
+  abbrev after : Move → Sums
+  after m = sumsBy (sums (r ∷ h)) (λ f. f (answered m b) + ups h f) (moved m b)
+
+  from-move : (m : Move) → moveBy h r b ≡ m → Conserved (after m) → Conserved (sumsOf (r ∷ h) (r .account))
+  from-move m q l = subst (λ s. Conserved s) (sym same) l
+    where
+      same : sumsOf (r ∷ h) (r .account) ≡ after m
+      same = rw (balance-after, added-after (λ (x : Amounts). x .interest), added-after (λ (x : Amounts). x .paidOut), added-after (λ (x : Amounts). x .retained), q)
 
   own : Conserved (sumsOf h (r .account)) → Sort h r → Conserved (sumsOf (r ∷ h) (r .account))
   own l (as-contribution k) =
-      from-move stays (move-contribution h r b k)
-      (n-contribution (sums h) (sums (r ∷ h)) (ups h) b l r (postedAs kind.Contribution r) refl (rw k at (here-plain (ap naming k))))
+      let m = rw k at (here-plain (ap naming k)) in
+      from-move stays (move-contribution h r b k) (omega arith)
   own l (as-added k i e f c d) =
-      let x = refundOf r e (fate h e) in
-      from-move (refunds x) (move-added h r b i e f k)
-      (n-added (sums h) (sums (r ∷ h)) (ups h) b l r e (fate (r ∷ h) r) (fate h e) x (omega arith) (rw (k, c) at (here-named (ap naming k) i e f)))
+      let m = rw (k, c) at (here-named (ap naming k) i e f) in
+      from-move (refunds (refundOf r e (fate h e))) (move-added h r b i e f k) (omega arith)
   own l (as-bill k) =
-      from-move (charges (billed (r .amount) (r .b) (r .a))) (move-bill h r b k)
-      (n-bill (sums h) (sums (r ∷ h)) (ups h) b l r (postedAs kind.Bill r) (billed (r .amount) (r .b) (r .a)) refl (rw k at (here-plain (ap naming k))))
+      let m = rw k at (here-plain (ap naming k)) in
+      from-move (charges (billed (r .amount) (r .b) (r .a))) (move-bill h r b k) (omega arith)
   own l (as-payment k) =
-      from-move (credits (r .amount)) (move-payment h r b k)
-      (n-payment (sums h) (sums (r ∷ h)) (ups h) b l r (postedAs kind.Payment r) refl (rw k at (here-plain (ap naming k))))
+      let m = rw k at (here-plain (ap naming k)) in
+      from-move (credits (r .amount)) (move-payment h r b k) (omega arith)
   own l (as-deposit k n a) =
-      from-move (deposits (r .amount) (r .a) (r .day)) (move-deposit h r b k)
-      (n-deposit (sums h) (sums (r ∷ h)) (ups h) b l r (postedAs kind.Deposit r) (r .a) (r .day) n (rw k at (here-plain (ap naming k))))
+      let m = rw k at (here-plain (ap naming k)) in
+      from-move (deposits (r .amount) (r .a) (r .day)) (move-deposit h r b k) (omega arith)
   own l (as-return k) =
-      let x = interest (b .deposit) (b .rate) (r .day - b .deposited) in
-      from-move (returns x) (move-return h r b k)
-      (n-return (sums h) (sums (r ∷ h)) (ups h) b l r (postedAs kind.DepositReturn r) x (rw k at (here-plain (ap naming k))))
+      let m = rw k at (here-plain (ap naming k)) in
+      from-move (returns (interest (b .deposit) (b .rate) (r .day - b .deposited))) (move-return h r b k) (omega arith)
   own l (as-expiry k i e f c o) =
-      from-move (retains (fate h e .held)) (move-expiry h r b i e f k)
-      (n-expiry (sums h) (sums (r ∷ h)) (ups h) b l r e (fate (r ∷ h) r) (fate h e) (rw (k, c) at (here-named (ap naming k) i e f)))
-  own l (as-correction k i e f bill c u) =
-      from-move (corrects bill (fate h e .standing) (r .amount)) (move-correction h r b i e f bill k c)
-      (n-correction (sums h) (sums (r ∷ h)) (ups h) b l r e (fate (r ∷ h) r) (fate h e) bill (rw (k, c) at (here-named (ap naming k) i e f)))
+      let m = rw (k, c) at (here-named (ap naming k) i e f) in
+      from-move (retains (fate h e .held)) (move-expiry h r b i e f k) (omega arith)
+  own l (as-correction k i e f true c u) =
+      let m = rw (k, c) at (here-named (ap naming k) i e f) in
+      from-move (corrects true (fate h e .standing) (r .amount)) (move-correction h r b i e f true k c)
+      (restates-cases (λ m. Conserved (after m)) (fate h e .standing) (r .amount) (λ q. omega arith) (λ q. omega arith))
+  own l (as-correction k i e f false c u) =
+      let m = rw (k, c) at (here-named (ap naming k) i e f) in
+      from-move (corrects false (fate h e .standing) (r .amount)) (move-correction h r b i e f false k c)
+      (restates-cases (λ m. Conserved (after m)) (r .amount) (fate h e .standing) (λ q. omega arith) (λ q. omega arith))
 
 pub conserve : {h : History} → Valid h → (a : ℕ) → Conserved (sumsOf h a)
 unfolding total filter addedUp balance
