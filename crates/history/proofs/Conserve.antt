@@ -11,14 +11,14 @@ use Rattle.entries.specs.declared.raw.Raw.{Raw}
 use Rattle.entries.specs.declared.kinds.Kind.{Kind}
 use Rattle.entries.specs.declared.kinds.Kind.the-variants as kind
 use Rattle.rules.specs.Formulas.{billed, interest}
-use Rattle.history.specs.History.{History, naming, names, found, find, Fate, fateOf, posted, refundOf, change, fate, Balance, Move, stays, charges, credits, refunds, deposits, returns, retains, moved, moveBy, balance, Amounts, answered, amounts, judge, filter, onAccount, entriesOf, total, amountOf, standingAmount, heldOf, addedUp, customers}
+use Rattle.history.specs.History.{History, naming, names, found, find, Fate, fateOf, posted, refundOf, change, fate, Balance, Move, stays, charges, credits, refunds, deposits, returns, retains, moved, moveBy, balance, Amounts, answered, amounts, judge, filter, onAccount, entriesOf, Reading, total, amountOf, standingAmount, heldOf, addedUp, customers}
 use Rattle.history.specs.Laws.{Valid, empty, joins, In, newest, older, Sums, sumsBy, sumsOf, Conserved, Divided}
 use Rattle.history.proofs.Accept.{Sort, as-contribution, as-added, as-bill, as-payment, as-deposit, as-return, as-expiry, as-correction, correctable, sorted, Role, alone, upon, role}
 use Rattle.history.proofs.Names.{pointed, hit, fate-new, customers-new, Misses, none, miss, Hits, first, later, plain, misses-kind, hits, names-found, names-points, fate-cases, fate-miss, fate-hit, customers-miss, customers-hit, customers-other}
 use Rattle.history.proofs.Moves.{move-contribution, move-bill, move-payment, move-deposit, move-return, move-added, move-expiry, move-correction, corrects, restates-cases}
 
 -- a sum over the entries that pass a test: an entry's own part, and the rest
-pub total-filter : (f : Kind → Raw → Fate → ℕ) (all : History) (p : Raw → Bool) (r : Raw) (h : History) →
+pub total-filter : (f : Reading) (all : History) (p : Raw → Bool) (r : Raw) (h : History) →
     total f all (filter p (r ∷ h)) ≡ cond (p r) (f (kindOf (r .kind)) r (fate all r)) 0 + total f all (filter p h)
 unfolding total filter
 total-filter f all p r h = go (p r)
@@ -28,7 +28,7 @@ total-filter f all p r h = go (p r)
     go false = omega arith
 
 -- a sum as the history grows, whatever is read off the entries
-module _ (f : Kind → Raw → Fate → ℕ) (c : Raw) (h : History) (p : Raw → Bool) where
+module _ (f : Reading) (c : Raw) (h : History) (p : Raw → Bool) where
   pub total-miss : {g : History} → Misses c g → total f (c ∷ h) (filter p g) ≡ total f h (filter p g)
   unfolding total filter
   total-miss none = refl
@@ -45,9 +45,6 @@ abbrev pub postedAs : Kind → Raw → Fate
 postedAs k e = fateOf (e .amount) 0 0 false (cond (sameOf k kind.Bill) (billed (e .amount) (e .b) (e .a)) (e .amount)) false
 
 -- how the sums over entries move: the entry's own part is added, and of what it names the new part takes the old one's place
-abbrev Reading : Type 0
-Reading = Kind → Raw → Fate → ℕ
-
 abbrev Moves : (s s′ own old new : Reading → ℕ) → Reading → Type 0
 Moves s s′ own old new f = s′ f + old f ≡ own f + s f + new f
 
@@ -70,14 +67,14 @@ part k e g f = f k e g
 
 module _ {h : History} (v : Valid h) (r : Raw) (j : judge h r ≡ 0) (a : ℕ) where
   -- the sums over the older entries after one that names nothing, and after one that does
-  changed : naming (kindOf (r .kind)) ≡ true → (i : ℕ) (e : Raw) → find h r ≡ found i e → (f : Kind → Raw → Fate → ℕ) →
+  changed : naming (kindOf (r .kind)) ≡ true → (i : ℕ) (e : Raw) → find h r ≡ found i e → (f : Reading) →
       total f (r ∷ h) (entriesOf h a) + cond (eqb (r .account) a) (f (kindOf (e .kind)) e (fate h e)) 0 ≡
       total f h (entriesOf h a) + cond (eqb (r .account) a) (f (kindOf (e .kind)) e (change (kindOf (r .kind)) r e (fate h e))) 0
   changed k i e q f =
       rw (ap (λ (n : ℕ). eqb n a) (pointed r e (hit v r i e q .aimed) .account)) at (total-hit f r h (onAccount a) (hits v r i e k q))
 
   -- another account's sums stay
-  still : eqb (r .account) a ≡ false → Role h r → (f : Kind → Raw → Fate → ℕ) → total f (r ∷ h) (entriesOf (r ∷ h) a) ≡ total f h (entriesOf h a)
+  still : eqb (r .account) a ≡ false → Role h r → (f : Reading) → total f (r ∷ h) (entriesOf (r ∷ h) a) ≡ total f h (entriesOf h a)
   still t (alone k) f = rw (total-filter, t) (omega (arith, total-miss f r h (onAccount a) (misses-kind r k h)))
   still t (upon k i e q) f = rw (total-filter, t) (omega (arith, rw t at (changed k i e q f)))
 

@@ -6,9 +6,8 @@ use mathlib.Core.List.{List, [], _∷_}
 use lib.ListN.{length}
 use Rattle.entries.specs.Kinds.{kindOf}
 use Rattle.entries.specs.declared.raw.Raw.{Raw}
-use Rattle.entries.specs.declared.kinds.Kind.{Kind}
 use Rattle.entries.specs.declared.kinds.Kind.the-variants as kind
-use Rattle.history.specs.History.{History, Fate, Amounts, entries, period, points, fate, Balance, balance, judge, offers, entriesOf, total, amountOf, standingAmount, heldOf, addedUp, toArrears, refundsPaid, customers}
+use Rattle.history.specs.History.{History, Amounts, entries, period, points, fate, Balance, balance, judge, offers, entriesOf, Reading, total, amountOf, standingAmount, heldOf, addedUp, toArrears, refundsPaid, customers}
 
 -- the histories that offers give: no refusal stopped any entry, read against those before it
 pub data Valid : History → Type 0 where
@@ -35,7 +34,7 @@ pub record Sums : Type 0 where
   pub credit : ℕ
 
 -- from a sum over entries of what is read off each, one posting by posting of an amount, and the balance
-abbrev pub sumsBy : ((Kind → Raw → Fate → ℕ) → ℕ) → ((Amounts → ℕ) → ℕ) → Balance → Sums
+abbrev pub sumsBy : (Reading → ℕ) → ((Amounts → ℕ) → ℕ) → Balance → Sums
 sumsBy sum added b =
     record {
       contributions = sum (amountOf kind.Contribution);
