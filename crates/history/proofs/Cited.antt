@@ -75,13 +75,13 @@ module _ (cs : List Call) where
   divided = demand3 cs .lawful .divided
 
   counted : (e : Raw) → In e h → kindOf (e .kind) ≡ kind.Contribution → fate h e .added ≡ customers h e
-  counted = demand3 cs .lawful .counted
+  counted e m k = omega (arith, demand3 cs .lawful .counted e m k)
 
   contributed : (c : Raw) → In c h → kindOf (c .kind) ≡ kind.AddedCustomer → (e : Raw) × In e h × (kindOf (e .kind) ≡ kind.Contribution) × (points c e ≡ true)
   contributed c m k = let w = demand3 cs .lawful .contributed c m k in (w .entry, w .member, w .contribution, w .aimed)
 
   in-period : (c e : Raw) → In c h → In e h → kindOf (c .kind) ≡ kind.AddedCustomer → points c e ≡ true → c .day < e .day + 1826
-  in-period = demand3 cs .lawful .in-period
+  in-period c e m n k p = omega (arith, demand3 cs .lawful .in-period c e m n k p)
 
   once : (x y z : History) (c d : Raw) → h ≡ x ++ c ∷ (y ++ d ∷ z) → kindOf (c .kind) ≡ kind.Correction → kindOf (d .kind) ≡ kind.Correction →
       c .account ≡ d .account → c .«named_node» ≡ d .«named_node» → c .«named_serial» ≡ d .«named_serial» → ⊥
