@@ -1,23 +1,30 @@
 -- Document 01's claims once more and in full, from demand 3 alone: no weaker statement of it, and none with a part left out, proves them.
-use mathlib.Core.Path.{_≡_, refl, subst, _∙_}
+use mathlib.Core.Path.{_≡_, refl, sym, subst, _∙_}
 use Prim.Native.Nat.{ℕ, _+_, _≤_, _<_}
 use native.Mathlib.Omega.{arith}
-use mathlib.Core.Bool.{true}
+use mathlib.Core.Bool.{Bool, true, false, cond, not, true≢false}
 use mathlib.Core.List.{List, [], _∷_, _++_}
+use lib.Seq.{take-all}
+use borrow.Author.Tests.{leb-true}
 use Rattle.measures.specs.Cents.{most}
 use Rattle.entries.specs.Kinds.{kindOf}
+use Rattle.entries.specs.Ranges.{between}
 use Rattle.entries.specs.declared.raw.Raw.{Raw}
 use Rattle.entries.specs.declared.kinds.Kind.the-variants as kind
 use Rattle.book.specs.Posting.{accountAt}
 use Rattle.book.specs.declared.Book.{Book}
 use Rattle.queries.specs.Chain.{chainAt, totalOf}
 use Rattle.queries.specs.Chain as chains
-use Rattle.history.specs.History.{History, points, fate, toArrears, refundsPaid, customers}
-use Rattle.history.specs.Laws.{In, newest, older, sumsOf, Once, Again}
+use Rattle.queries.specs.Statement.{statementOf}
+use Rattle.queries.specs.declared.statements.StatementReply.{StatementReply}
+use Rattle.history.specs.History.{History, points, fate, entriesOf, toArrears, refundsPaid, customers}
+use Rattle.history.specs.Laws.{In, newest, older, Sums, sumsOf, Once, Again}
+use Rattle.history.specs.Queries.{statementBy, statementIn}
 use Rattle.history.specs.Agreement.{Kept}
 use Rattle.history.specs.Calls.{Call, answersIn, historyOf}
 use Rattle.history.specs.Claim.{bookOf, answersOf}
 use Rattle.history.specs.Witness.{calls, answers}
+use Rattle.history.proofs.Queries.{statement-same}
 use Rattle.history.proofs.Claim.{demand3}
 use Rattle.history.proofs.Witness.{witnessed}
 
@@ -28,6 +35,10 @@ middle (r ∷ x) e y = older (middle x e y)
 once-in : (x y z : History) (c d : Raw) → Once (x ++ c ∷ (y ++ d ∷ z)) → Again c d → ⊥
 once-in [] y z c d o w = o .0 d (middle y d z) w
 once-in (r ∷ x) y z c d o w = once-in x y z c d (o .1) w
+
+-- an account's sums with a statement's figures
+abbrev Balances : Sums → StatementReply → Type 0
+Balances s t = s .contributions + t .payments + s .deposits + s .interest + t .arrears ≡ t .bills + s .paidOut + s .retained + t .held + t .deposit + t .credit
 
 module _ (cs : List Call) where
   abbrev h : History
@@ -51,19 +62,26 @@ module _ (cs : List Call) where
       let d = demand3 cs in
       omega (arith, d .lawful .conserved a, d .arrears a l m, d .credit a l m, d .deposit a l m, d .held a l m)
 
+  -- and with those of every complete statement
+  balanced : (a n : ℕ) → statementOf b a n .complete ≡ true → Balances (sumsOf h a) (statementOf b a n)
+  unfolding statementIn
+  balanced a n = rw (statement-same kept a n) (go (between a 1 128))
+    where
+      go : (u : Bool) → let t = statementBy (cond (not u) 3 0) h a n in t .complete ≡ true → Balances (sumsOf h a) t
+      go true e = rw (take-all n (entriesOf h a) (leb-true _ _ e)) (demand3 cs .lawful .conserved a)
+      go false e = absurd (true≢false (sym e))
+
   divided : (e : Raw) → In e h → kindOf (e .kind) ≡ kind.Contribution → e .amount ≡ toArrears h e + refundsPaid h e + fate h e .held + fate h e .retained
   divided = demand3 cs .lawful .divided
 
   counted : (e : Raw) → In e h → kindOf (e .kind) ≡ kind.Contribution → fate h e .added ≡ customers h e
-  counted = demand3 cs .lawful .counted
+  counted e m k = omega (arith, demand3 cs .lawful .counted e m k)
 
-  -- an added customer's contribution, and the customer's day
-  refunded : (c : Raw) → In c h → kindOf (c .kind) ≡ kind.AddedCustomer →
-      (e : Raw) × In e h × (kindOf (e .kind) ≡ kind.Contribution) × (points c e ≡ true) × (c .day < e .day + 1826)
-  refunded c m k =
-      let d = demand3 cs .lawful in
-      let w = d .contributed c m k in
-      (w .entry, w .member, w .contribution, w .aimed, d .in-period c (w .entry) m (w .member) k (w .aimed))
+  contributed : (c : Raw) → In c h → kindOf (c .kind) ≡ kind.AddedCustomer → (e : Raw) × In e h × (kindOf (e .kind) ≡ kind.Contribution) × (points c e ≡ true)
+  contributed c m k = let w = demand3 cs .lawful .contributed c m k in (w .entry, w .member, w .contribution, w .aimed)
+
+  in-period : (c e : Raw) → In c h → In e h → kindOf (c .kind) ≡ kind.AddedCustomer → points c e ≡ true → c .day < e .day + 1826
+  in-period c e m n k p = omega (arith, demand3 cs .lawful .in-period c e m n k p)
 
   once : (x y z : History) (c d : Raw) → h ≡ x ++ c ∷ (y ++ d ∷ z) → kindOf (c .kind) ≡ kind.Correction → kindOf (d .kind) ≡ kind.Correction →
       c .account ≡ d .account → c .«named_node» ≡ d .«named_node» → c .«named_serial» ≡ d .«named_serial» → ⊥

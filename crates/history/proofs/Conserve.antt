@@ -1,6 +1,6 @@
 -- An account's sums and amounts are conserved, and so is each contribution.
 use mathlib.Core.Path.{_≡_, refl, sym, ap, _∙_, subst}
-use Prim.Native.Nat.{ℕ, _+_, _-_, _≤_}
+use Prim.Native.Nat.{ℕ, _+_, _-_}
 use native.Mathlib.Omega.{arith}
 use mathlib.Core.Bool.{Bool, true, false, cond, true≢false}
 use mathlib.Core.List.{[], _∷_}
@@ -11,15 +11,14 @@ use Rattle.entries.specs.declared.raw.Raw.{Raw}
 use Rattle.entries.specs.declared.kinds.Kind.{Kind}
 use Rattle.entries.specs.declared.kinds.Kind.the-variants as kind
 use Rattle.rules.specs.Formulas.{billed, interest}
-use Rattle.rules.specs.Moves.{settles, leaves}
-use Rattle.history.specs.History.{History, naming, names, found, find, Fate, fateOf, posted, refundOf, change, fate, Balance, Move, stays, charges, credits, refunds, deposits, returns, retains, moved, moveBy, balance, Amounts, answered, amounts, judge, filter, onAccount, entriesOf, total, amountOf, standingAmount, heldOf, addedUp, toArrears, refundsPaid, customers}
-use Rattle.history.specs.Laws.{Valid, empty, joins, In, newest, older, sumsOf, Conserved, Divided}
+use Rattle.history.specs.History.{History, naming, names, found, find, Fate, fateOf, posted, refundOf, change, fate, Balance, Move, stays, charges, credits, refunds, deposits, returns, retains, moved, moveBy, balance, Amounts, answered, amounts, judge, filter, onAccount, entriesOf, Reading, total, amountOf, standingAmount, heldOf, addedUp, customers}
+use Rattle.history.specs.Laws.{Valid, empty, joins, In, newest, older, Sums, sumsBy, sumsOf, Conserved, Divided}
 use Rattle.history.proofs.Accept.{Sort, as-contribution, as-added, as-bill, as-payment, as-deposit, as-return, as-expiry, as-correction, correctable, sorted, Role, alone, upon, role}
 use Rattle.history.proofs.Names.{pointed, hit, fate-new, customers-new, Misses, none, miss, Hits, first, later, plain, misses-kind, hits, names-found, names-points, fate-cases, fate-miss, fate-hit, customers-miss, customers-hit, customers-other}
 use Rattle.history.proofs.Moves.{move-contribution, move-bill, move-payment, move-deposit, move-return, move-added, move-expiry, move-correction, corrects, restates-cases}
 
 -- a sum over the entries that pass a test: an entry's own part, and the rest
-pub total-filter : (f : Kind → Raw → Fate → ℕ) (all : History) (p : Raw → Bool) (r : Raw) (h : History) →
+pub total-filter : (f : Reading) (all : History) (p : Raw → Bool) (r : Raw) (h : History) →
     total f all (filter p (r ∷ h)) ≡ cond (p r) (f (kindOf (r .kind)) r (fate all r)) 0 + total f all (filter p h)
 unfolding total filter
 total-filter f all p r h = go (p r)
@@ -29,7 +28,7 @@ total-filter f all p r h = go (p r)
     go false = omega arith
 
 -- a sum as the history grows, whatever is read off the entries
-module _ (f : Kind → Raw → Fate → ℕ) (c : Raw) (h : History) (p : Raw → Bool) where
+module _ (f : Reading) (c : Raw) (h : History) (p : Raw → Bool) where
   pub total-miss : {g : History} → Misses c g → total f (c ∷ h) (filter p g) ≡ total f h (filter p g)
   unfolding total filter
   total-miss none = refl
@@ -45,95 +44,37 @@ module _ (f : Kind → Raw → Fate → ℕ) (c : Raw) (h : History) (p : Raw �
 abbrev pub postedAs : Kind → Raw → Fate
 postedAs k e = fateOf (e .amount) 0 0 false (cond (sameOf k kind.Bill) (billed (e .amount) (e .b) (e .a)) (e .amount)) false
 
--- the five sums over entries
-record EntrySums : Type 0 where
-  contributed : ℕ
-  paid : ℕ
-  deposited : ℕ
-  billed : ℕ
-  held : ℕ
+-- how the sums over entries move: the entry's own part is added, and of what it names the new part takes the old one's place
+abbrev Moves : (s s′ own old new : Reading → ℕ) → Reading → Type 0
+Moves s s′ own old new f = s′ f + old f ≡ own f + s f + new f
 
-abbrev each : ((Kind → Raw → Fate → ℕ) → ℕ) → EntrySums
-each s = record { contributed = s (amountOf kind.Contribution); paid = s (standingAmount kind.Payment); deposited = s (amountOf kind.Deposit); billed = s (standingAmount kind.Bill); held = s heldOf }
+record Shifted (s s′ own old new : Reading → ℕ) : Type 0 where
+  contributions : Moves s s′ own old new (amountOf kind.Contribution)
+  payments : Moves s s′ own old new (standingAmount kind.Payment)
+  deposits : Moves s s′ own old new (amountOf kind.Deposit)
+  bills : Moves s s′ own old new (standingAmount kind.Bill)
+  held : Moves s s′ own old new heldOf
 
--- how the sums move: the entry's own part is added, and of what it names the new part takes the old one's place
-record Shifted (s s′ own old new : EntrySums) : Type 0 where
-  contributed : s′ .contributed + old .contributed ≡ own .contributed + s .contributed + new .contributed
-  paid : s′ .paid + old .paid ≡ own .paid + s .paid + new .paid
-  deposited : s′ .deposited + old .deposited ≡ own .deposited + s .deposited + new .deposited
-  billed : s′ .billed + old .billed ≡ own .billed + s .billed + new .billed
-  held : s′ .held + old .held ≡ own .held + s .held + new .held
-
-abbrev shift : (s s′ own old new : (Kind → Raw → Fate → ℕ) → ℕ) →
-    ((f : Kind → Raw → Fate → ℕ) → s′ f + old f ≡ own f + s f + new f) → Shifted (each s) (each s′) (each own) (each old) (each new)
+abbrev shift : (s s′ own old new : Reading → ℕ) → ((f : Reading) → Moves s s′ own old new f) → Shifted s s′ own old new
 shift s s′ own old new e =
-    record { contributed = e (amountOf kind.Contribution); paid = e (standingAmount kind.Payment); deposited = e (amountOf kind.Deposit); billed = e (standingAmount kind.Bill); held = e heldOf }
+    record { contributions = e (amountOf kind.Contribution); payments = e (standingAmount kind.Payment); deposits = e (amountOf kind.Deposit); bills = e (standingAmount kind.Bill); held = e heldOf }
 
--- the amounts added up posting by posting
-abbrev plus : Amounts → Amounts → Amounts
-plus x u =
-    record {
-      settled = x .settled + u .settled;
-      paidOut = x .paidOut + u .paidOut;
-      retained = x .retained + u .retained;
-      interest = x .interest + u .interest;
-    }
+abbrev nil : Reading → ℕ
+nil f = 0
 
-abbrev Law : EntrySums → Amounts → Balance → Type 0
-Law s u b =
-    Conserved
-    (record { contributions = s .contributed; payments = s .paid; deposits = s .deposited; interest = u .interest; arrears = b .arrears; bills = s .billed; paidOut = u .paidOut; retained = u .retained; held = s .held; deposit = b .deposit; credit = b .credit })
-
-abbrev nil : EntrySums
-nil = each (λ f. 0)
-
--- the law, move by move, on plain numbers
-module _ (s s′ : EntrySums) (u : Amounts) (b : Balance) (l : Law s u b) (r : Raw) where
-  abbrev After : Move → Type 0
-  After m = Law s′ (plus (answered m b) u) (moved m b)
-
-  n-contribution : (g : Fate) → g .held ≡ r .amount → Shifted s s′ (each (λ f. f kind.Contribution r g)) nil nil → After stays
-  n-contribution g q m = omega arith
-
-  n-bill : (g : Fate) (x : ℕ) → g .standing ≡ x → Shifted s s′ (each (λ f. f kind.Bill r g)) nil nil → After (charges x)
-  n-bill g x q m = omega arith
-
-  n-payment : (g : Fate) → g .standing ≡ r .amount → Shifted s s′ (each (λ f. f kind.Payment r g)) nil nil → After (credits (r .amount))
-  n-payment g q m = omega arith
-
-  n-deposit : (g : Fate) (rate day : ℕ) → b .deposit ≡ 0 → Shifted s s′ (each (λ f. f kind.Deposit r g)) nil nil →
-      After (deposits (r .amount) rate day)
-  n-deposit g rate day q m = omega arith
-
-  n-return : (g : Fate) (i : ℕ) → Shifted s s′ (each (λ f. f kind.DepositReturn r g)) nil nil → After (returns i)
-  n-return g i m = omega arith
-
-  module _ (e : Raw) (f′ g : Fate) where
-    n-added : (x : ℕ) → x ≤ g .held →
-        Shifted s s′ (each (λ f. f kind.AddedCustomer r f′)) (each (λ f. f kind.Contribution e g)) (each (λ f. f kind.Contribution e (fateOf (g .held - x) (g .retained) (g .added + 1) (g .closed) (g .standing) (g .corrected)))) →
-        After (refunds x)
-    n-added x q m = omega arith
-
-    n-expiry : Shifted s s′ (each (λ f. f kind.Expiry r f′)) (each (λ f. f kind.Contribution e g)) (each (λ f. f kind.Contribution e (change kind.Expiry r e g))) →
-        After (retains (g .held))
-    n-expiry m = omega arith
-
-    n-correction : (bill : Bool) →
-        Shifted s s′ (each (λ f. f kind.Correction r f′)) (each (λ f. f (correctable bill) e g)) (each (λ f. f (correctable bill) e (change kind.Correction r e g))) →
-        After (corrects bill (g .standing) (r .amount))
-    n-correction true m = restates-cases After (g .standing) (r .amount) (λ q. omega arith) (λ q. omega arith)
-    n-correction false m = restates-cases After (r .amount) (g .standing) (λ q. omega arith) (λ q. omega arith)
+abbrev part : Kind → Raw → Fate → Reading → ℕ
+part k e g f = f k e g
 
 module _ {h : History} (v : Valid h) (r : Raw) (j : judge h r ≡ 0) (a : ℕ) where
   -- the sums over the older entries after one that names nothing, and after one that does
-  changed : naming (kindOf (r .kind)) ≡ true → (i : ℕ) (e : Raw) → find h r ≡ found i e → (f : Kind → Raw → Fate → ℕ) →
+  changed : naming (kindOf (r .kind)) ≡ true → (i : ℕ) (e : Raw) → find h r ≡ found i e → (f : Reading) →
       total f (r ∷ h) (entriesOf h a) + cond (eqb (r .account) a) (f (kindOf (e .kind)) e (fate h e)) 0 ≡
       total f h (entriesOf h a) + cond (eqb (r .account) a) (f (kindOf (e .kind)) e (change (kindOf (r .kind)) r e (fate h e))) 0
   changed k i e q f =
       rw (ap (λ (n : ℕ). eqb n a) (pointed r e (hit v r i e q .aimed) .account)) at (total-hit f r h (onAccount a) (hits v r i e k q))
 
   -- another account's sums stay
-  still : eqb (r .account) a ≡ false → Role h r → (f : Kind → Raw → Fate → ℕ) → total f (r ∷ h) (entriesOf (r ∷ h) a) ≡ total f h (entriesOf h a)
+  still : eqb (r .account) a ≡ false → Role h r → (f : Reading) → total f (r ∷ h) (entriesOf (r ∷ h) a) ≡ total f h (entriesOf h a)
   still t (alone k) f = rw (total-filter, t) (omega (arith, total-miss f r h (onAccount a) (misses-kind r k h)))
   still t (upon k i e q) f = rw (total-filter, t) (omega (arith, rw t at (changed k i e q f)))
 
@@ -150,32 +91,26 @@ module _ {h : History} (v : Valid h) (r : Raw) (j : judge h r ≡ 0) where
   private-same : eqb (r .account) (r .account) ≡ true
   private-same = eq-eqb (r .account) (r .account) refl
 
-  abbrev sums : History → EntrySums
-  sums g = each (λ f. total f g (entriesOf g (r .account)))
+  abbrev sums : History → Reading → ℕ
+  sums g f = total f g (entriesOf g (r .account))
 
-  abbrev ups : History → Amounts
-  ups g =
-      record {
-        settled = addedUp (λ (x : Amounts). x .settled) g (r .account);
-        paidOut = addedUp (λ (x : Amounts). x .paidOut) g (r .account);
-        retained = addedUp (λ (x : Amounts). x .retained) g (r .account);
-        interest = addedUp (λ (x : Amounts). x .interest) g (r .account);
-      }
+  abbrev ups : History → (Amounts → ℕ) → ℕ
+  ups g f = addedUp f g (r .account)
 
   abbrev b : Balance
   b = balance h (r .account)
 
-  here-plain : naming (kindOf (r .kind)) ≡ false → Shifted (sums h) (sums (r ∷ h)) (each (λ f. f (kindOf (r .kind)) r (posted r))) nil nil
+  here-plain : naming (kindOf (r .kind)) ≡ false → Shifted (sums h) (sums (r ∷ h)) (part (kindOf (r .kind)) r (posted r)) nil nil
   here-plain k =
-      shift (λ f. total f h (entriesOf h (r .account))) (λ f. total f (r ∷ h) (entriesOf (r ∷ h) (r .account))) (λ f. f (kindOf (r .kind)) r (posted r)) (λ f. 0) (λ f. 0)
+      shift (sums h) (sums (r ∷ h)) (part (kindOf (r .kind)) r (posted r)) nil nil
       (λ f. rw (total-filter, private-same, total-miss f r h (onAccount (r .account)) (misses-kind r k h), fate-new v r j) (omega arith))
 
   here-named : naming (kindOf (r .kind)) ≡ true → (i : ℕ) (e : Raw) → find h r ≡ found i e →
-      Shifted (sums h) (sums (r ∷ h)) (each (λ f. f (kindOf (r .kind)) r (fate (r ∷ h) r))) (each (λ f. f (kindOf (e .kind)) e (fate h e)))
-      (each (λ f. f (kindOf (e .kind)) e (change (kindOf (r .kind)) r e (fate h e))))
+      Shifted (sums h) (sums (r ∷ h)) (part (kindOf (r .kind)) r (fate (r ∷ h) r)) (part (kindOf (e .kind)) e (fate h e))
+      (part (kindOf (e .kind)) e (change (kindOf (r .kind)) r e (fate h e)))
   here-named k i e q =
-      shift (λ f. total f h (entriesOf h (r .account))) (λ f. total f (r ∷ h) (entriesOf (r ∷ h) (r .account))) (λ f. f (kindOf (r .kind)) r (fate (r ∷ h) r))
-      (λ f. f (kindOf (e .kind)) e (fate h e)) (λ f. f (kindOf (e .kind)) e (change (kindOf (r .kind)) r e (fate h e)))
+      shift (sums h) (sums (r ∷ h)) (part (kindOf (r .kind)) r (fate (r ∷ h) r))
+      (part (kindOf (e .kind)) e (fate h e)) (part (kindOf (e .kind)) e (change (kindOf (r .kind)) r e (fate h e)))
       (λ f. rw (total-filter, private-same) (let c = rw private-same at (changed v r j (r .account) k i e q f) in omega arith))
 
   balance-after : balance (r ∷ h) (r .account) ≡ moved (moveBy h r b) b
@@ -186,37 +121,46 @@ module _ {h : History} (v : Valid h) (r : Raw) (j : judge h r ≡ 0) where
   unfolding addedUp amounts
   added-after f = rw private-same
 
-  from-move : (m : Move) → moveBy h r b ≡ m → Law (sums (r ∷ h)) (plus (answered m b) (ups h)) (moved m b) → Conserved (sumsOf (r ∷ h) (r .account))
-  from-move m q l =
-      rw (balance-after, added-after (λ (x : Amounts). x .interest), added-after (λ (x : Amounts). x .paidOut), added-after (λ (x : Amounts). x .retained), q) l
+  -- the account's sums after a move
+  abbrev after : Move → Sums
+  after m = sumsBy (sums (r ∷ h)) (λ f. f (answered m b) + ups h f) (moved m b)
+
+  from-move : (m : Move) → moveBy h r b ≡ m → Conserved (after m) → Conserved (sumsOf (r ∷ h) (r .account))
+  from-move m q l = subst (λ s. Conserved s) (sym same) l
+    where
+      same : sumsOf (r ∷ h) (r .account) ≡ after m
+      same = rw (balance-after, added-after (λ (x : Amounts). x .interest), added-after (λ (x : Amounts). x .paidOut), added-after (λ (x : Amounts). x .retained), q)
 
   own : Conserved (sumsOf h (r .account)) → Sort h r → Conserved (sumsOf (r ∷ h) (r .account))
   own l (as-contribution k) =
-      from-move stays (move-contribution h r b k)
-      (n-contribution (sums h) (sums (r ∷ h)) (ups h) b l r (posted r) refl (rw k at (here-plain (ap naming k))))
+      let m = rw k at (here-plain (ap naming k)) in
+      from-move stays (move-contribution h r b k) (omega arith)
   own l (as-added k i e f c d) =
-      let x = refundOf r e (fate h e) in
-      from-move (refunds x) (move-added h r b i e f k)
-      (n-added (sums h) (sums (r ∷ h)) (ups h) b l r e (fate (r ∷ h) r) (fate h e) x (omega arith) (rw (k, c) at (here-named (ap naming k) i e f)))
+      let m = rw (k, c) at (here-named (ap naming k) i e f) in
+      from-move (refunds (refundOf r e (fate h e))) (move-added h r b i e f k) (omega arith)
   own l (as-bill k) =
-      from-move (charges (billed (r .amount) (r .b) (r .a))) (move-bill h r b k)
-      (n-bill (sums h) (sums (r ∷ h)) (ups h) b l r (postedAs kind.Bill r) (billed (r .amount) (r .b) (r .a)) refl (rw k at (here-plain (ap naming k))))
+      let m = rw k at (here-plain (ap naming k)) in
+      from-move (charges (billed (r .amount) (r .b) (r .a))) (move-bill h r b k) (omega arith)
   own l (as-payment k) =
-      from-move (credits (r .amount)) (move-payment h r b k)
-      (n-payment (sums h) (sums (r ∷ h)) (ups h) b l r (postedAs kind.Payment r) refl (rw k at (here-plain (ap naming k))))
+      let m = rw k at (here-plain (ap naming k)) in
+      from-move (credits (r .amount)) (move-payment h r b k) (omega arith)
   own l (as-deposit k n a) =
-      from-move (deposits (r .amount) (r .a) (r .day)) (move-deposit h r b k)
-      (n-deposit (sums h) (sums (r ∷ h)) (ups h) b l r (posted r) (r .a) (r .day) n (rw k at (here-plain (ap naming k))))
+      let m = rw k at (here-plain (ap naming k)) in
+      from-move (deposits (r .amount) (r .a) (r .day)) (move-deposit h r b k) (omega arith)
   own l (as-return k) =
-      let x = interest (b .deposit) (b .rate) (r .day - b .deposited) in
-      from-move (returns x) (move-return h r b k)
-      (n-return (sums h) (sums (r ∷ h)) (ups h) b l r (posted r) x (rw k at (here-plain (ap naming k))))
+      let m = rw k at (here-plain (ap naming k)) in
+      from-move (returns (interest (b .deposit) (b .rate) (r .day - b .deposited))) (move-return h r b k) (omega arith)
   own l (as-expiry k i e f c o) =
-      from-move (retains (fate h e .held)) (move-expiry h r b i e f k)
-      (n-expiry (sums h) (sums (r ∷ h)) (ups h) b l r e (fate (r ∷ h) r) (fate h e) (rw (k, c) at (here-named (ap naming k) i e f)))
-  own l (as-correction k i e f bill c u) =
-      from-move (corrects bill (fate h e .standing) (r .amount)) (move-correction h r b i e f bill k c)
-      (n-correction (sums h) (sums (r ∷ h)) (ups h) b l r e (fate (r ∷ h) r) (fate h e) bill (rw (k, c) at (here-named (ap naming k) i e f)))
+      let m = rw (k, c) at (here-named (ap naming k) i e f) in
+      from-move (retains (fate h e .held)) (move-expiry h r b i e f k) (omega arith)
+  own l (as-correction k i e f true c u) =
+      let m = rw (k, c) at (here-named (ap naming k) i e f) in
+      from-move (corrects true (fate h e .standing) (r .amount)) (move-correction h r b i e f true k c)
+      (restates-cases (λ m. Conserved (after m)) (fate h e .standing) (r .amount) (λ q. omega arith) (λ q. omega arith))
+  own l (as-correction k i e f false c u) =
+      let m = rw (k, c) at (here-named (ap naming k) i e f) in
+      from-move (corrects false (fate h e .standing) (r .amount)) (move-correction h r b i e f false k c)
+      (restates-cases (λ m. Conserved (after m)) (r .amount) (fate h e .standing) (λ q. omega arith) (λ q. omega arith))
 
 pub conserve : {h : History} → Valid h → (a : ℕ) → Conserved (sumsOf h a)
 unfolding total filter addedUp balance
@@ -258,16 +202,11 @@ module _ {h : History} (v : Valid h) (r : Raw) (j : judge h r ≡ 0) where
   divided-miss e n l =
       rw (fate-miss r h e n, customers-miss (λ (x : Amounts). x .settled) r h e n, customers-miss (λ (x : Amounts). x .paidOut) r h e n, customers-miss (λ (x : Amounts). 1) r h e n) l
 
-  n-refunded : (own x arrears paid old held retained : ℕ) → own ≡ paid + old + held + retained → x ≤ held →
-      own ≡ (settles x arrears + paid) + (leaves x arrears + old) + (held - x) + retained
-  n-refunded own x arrears paid old held retained l q = omega arith
-
   divided-added : (e : Raw) (i : ℕ) → kindOf (r .kind) ≡ kind.AddedCustomer → find h r ≡ found i e → Parted h e → Parted (r ∷ h) e
   unfolding amounts
   divided-added e i k f l =
       let p = hit v r i e f .aimed in
       let b = balance h (r .account) in
-      let x = refundOf r e (fate h e) in
       rw (
         fate-hit r h e (names-points r e (ap naming k) p),
         customers-hit (λ (x : Amounts). x .settled) r h e k p,
@@ -276,7 +215,7 @@ module _ {h : History} (v : Valid h) (r : Raw) (j : judge h r ≡ 0) where
         move-added h r b i e f k,
         k,
       )
-      (n-refunded (e .amount) x (b .arrears) (toArrears h e) (refundsPaid h e) (fate h e .held) (fate h e .retained) (l .0) (omega arith), omega arith)
+      (omega arith)
 
   divided-expired : (e : Raw) → kindOf (r .kind) ≡ kind.Expiry → names r e ≡ true → fate h e .closed ≡ false → Parted h e → Parted (r ∷ h) e
   divided-expired e k n o l =

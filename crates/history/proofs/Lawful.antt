@@ -16,9 +16,9 @@ lawful h v =
     record {
       conserved = λ a. conserve v a;
       divided = λ e m c. divide v e m c .0;
-      counted = λ e m c. divide v e m c .1;
+      counted = λ e m c. omega (arith, divide v e m c);
       contributed = λ c m k. refunded v c m k .0;
-      in-period = λ c e m n k p. in-period v c e m n k p;
+      in-period = λ c e m n k p. omega (arith, in-period v c e m n k p);
       once = once v;
     }
 

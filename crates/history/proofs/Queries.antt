@@ -29,7 +29,7 @@ use Rattle.queries.specs.Statement.{statementReplyOf, givenOf, statementOf}
 use Rattle.queries.specs.Statement as statements
 use Rattle.queries.specs.Contribution.{contributionReplyOf, figuresOf, contributionQueryOf}
 use Rattle.queries.specs.Contribution as contributions
-use Rattle.history.specs.History.{History, accounts, points, names, Sought, missing, found, find, Fate, fate, entryIn, asking, filter, entriesOf, total, standingAmount, heldOf, toArrears, refundsPaid}
+use Rattle.history.specs.History.{History, accounts, points, names, Sought, missing, found, find, Fate, fate, entryIn, asking, filter, entriesOf, Reading, total, standingAmount, heldOf, toArrears, refundsPaid}
 use Rattle.history.specs.Laws.{Valid, empty, joins}
 use Rattle.history.specs.Agreement.{keptData, dataIn, keptEntry, keptChain, Kept}
 use Rattle.history.specs.Queries.{statementBy, statementIn, contributionBy, contributionIn}
@@ -52,7 +52,7 @@ some-small true x l = l
 some-small false x l = omega arith
 
 -- sums of small numbers are small
-module _ (f : Kind → Raw → Fate → ℕ) (all : History) where
+module _ (f : Reading) (all : History) where
   total-small : (a : ℕ) → ((e : Raw) → InRange e (kindOf (e .kind)) → f (kindOf (e .kind)) e (fate all e) ≤ large) → {h : History} → Valid h →
       total f all (entriesOf h a) ≤ large * length h
   unfolding total filter
@@ -92,7 +92,7 @@ reads-length none = refl
 reads-length (link h w) = ap suc (reads-length w)
 
 -- sums along the chain are the history's
-pub reads-total : (g : Entry → ℕ) (f : Kind → Raw → Fate → ℕ) (all : History) → ((h : History) (e : Raw) → g (keptEntry all h e) ≡ f (kindOf (e .kind)) e (fate all e)) →
+pub reads-total : (g : Entry → ℕ) (f : Reading) (all : History) → ((h : History) (e : Raw) → g (keptEntry all h e) ≡ f (kindOf (e .kind)) e (fate all e)) →
     {es : List Entry} {rs : History} → Reads all es rs → totalOf g es ≡ total f all rs
 unfolding totalOf total
 reads-total g f all same none = refl

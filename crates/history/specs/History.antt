@@ -284,19 +284,23 @@ onAccount account r = eqb (r .account) account
 abbrev pub entriesOf : History → ℕ → History
 entriesOf h account = filter (onAccount account) h
 
+-- what is read off an entry, of its kind, and its fate
+abbrev pub Reading : Type 0
+Reading = Kind → Raw → Fate → ℕ
+
 -- a sum over entries, of what is read off each and its fate in the whole history, `all`
-unfoldable pub total : (Kind → Raw → Fate → ℕ) → History → History → ℕ
+unfoldable pub total : Reading → History → History → ℕ
 total f all [] = 0
 total f all (r ∷ es) = f (kindOf (r .kind)) r (fate all r) + total f all es
 
 -- contributions and deposits are summed by their amounts, bills and payments at their standing amounts, contributions by what is held
-abbrev pub amountOf : Kind → Kind → Raw → Fate → ℕ
+abbrev pub amountOf : Kind → Reading
 amountOf l k e f = cond (sameOf k l) (e .amount) 0
 
-abbrev pub standingAmount : Kind → Kind → Raw → Fate → ℕ
+abbrev pub standingAmount : Kind → Reading
 standingAmount l k e f = cond (sameOf k l) (f .standing) 0
 
-abbrev pub heldOf : Kind → Raw → Fate → ℕ
+abbrev pub heldOf : Reading
 heldOf k e f = cond (sameOf k kind.Contribution) (f .held) 0
 
 -- interest, paid out and retained are added up posting by posting

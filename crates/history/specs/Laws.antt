@@ -6,9 +6,8 @@ use mathlib.Core.List.{List, [], _∷_}
 use lib.ListN.{length}
 use Rattle.entries.specs.Kinds.{kindOf}
 use Rattle.entries.specs.declared.raw.Raw.{Raw}
-use Rattle.entries.specs.declared.kinds.Kind.{Kind}
 use Rattle.entries.specs.declared.kinds.Kind.the-variants as kind
-use Rattle.history.specs.History.{History, Fate, Amounts, entries, period, points, fate, balance, judge, offers, entriesOf, total, amountOf, standingAmount, heldOf, addedUp, toArrears, refundsPaid, customers}
+use Rattle.history.specs.History.{History, Amounts, entries, period, points, fate, Balance, balance, judge, offers, entriesOf, Reading, total, amountOf, standingAmount, heldOf, addedUp, toArrears, refundsPaid, customers}
 
 -- the histories that offers give: no refusal stopped any entry, read against those before it
 pub data Valid : History → Type 0 where
@@ -34,11 +33,9 @@ pub record Sums : Type 0 where
   pub deposit : ℕ
   pub credit : ℕ
 
-abbrev pub sumsOf : History → ℕ → Sums
-sumsOf h a =
-    let b = balance h a in
-    let sum : (Kind → Raw → Fate → ℕ) → ℕ = λ f. total f h (entriesOf h a) in
-    let added : (Amounts → ℕ) → ℕ = λ f. addedUp f h a in
+-- from a sum over entries of what is read off each, one posting by posting of an amount, and the balance
+abbrev pub sumsBy : (Reading → ℕ) → ((Amounts → ℕ) → ℕ) → Balance → Sums
+sumsBy sum added b =
     record {
       contributions = sum (amountOf kind.Contribution);
       payments = sum (standingAmount kind.Payment);
@@ -52,6 +49,9 @@ sumsOf h a =
       deposit = b .deposit;
       credit = b .credit;
     }
+
+abbrev pub sumsOf : History → ℕ → Sums
+sumsOf h a = sumsBy (λ f. total f h (entriesOf h a)) (λ f. addedUp f h a) (balance h a)
 
 -- Contributions, payments, deposits, interest and arrears together are bills, paid out, retained, contributions held, deposit held
 -- and credit together.
