@@ -57,7 +57,7 @@ resultsIn h run results output =
     cond (eqb (carryRefusalIn h run results output) 0) (carryVerdicts h (runOf run) results) results
 
 pub record Hosted (l : List ℕ) : Type 0 where
-  -- the history's sums, and no two corrections on one account that name the same entry
+  -- the claims of the history: sums, contributions, refunds with their days, corrections
   pub lawful : Lawful (historyIn l)
   -- bounds within which no sum saturates
   pub bounded : Bounded (historyIn l)
