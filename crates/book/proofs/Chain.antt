@@ -45,15 +45,6 @@ walks-on at left = go (ltb 0 left) (endsOf at) refl
     go true false e h = (ltb-true 0 left e, refl)
     go false t e h = let z : _≡_ {A = ℕ} 0 1 = cc in absurd (omega arith)
 
--- what was found before, or else what is found from here
-abbrev pub orElse : Found → Found → Found
-orElse (At i) f = At i
-orElse Nothing f = f
-
-pub orElse-nothing : (f : Found) → orElse f Nothing ≡ f
-orElse-nothing (At i) = refl
-orElse-nothing Nothing = refl
-
 pub findIn-none : (es : List Entry) (r : Raw) (at : ℕ) → findIn es r 0 at ≡ Nothing
 unfolding findIn
 findIn-none es r at = refl

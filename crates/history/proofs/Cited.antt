@@ -1,6 +1,6 @@
 -- Document 01's claims once more and in full, from demand 3 alone: no weaker statement of it, and none with a part left out, proves them.
 use mathlib.Core.Path.{_≡_, refl, sym, subst, _∙_}
-use Prim.Native.Nat.{ℕ, _+_, _≤_, _<_}
+use Prim.Native.Nat.{ℕ, _+_, _*_, _/_, min, _≤_, _<_}
 use native.Mathlib.Omega.{arith}
 use mathlib.Core.Bool.{Bool, true, false, cond, not, true≢false}
 use mathlib.Core.List.{List, [], _∷_, _++_}
@@ -17,8 +17,8 @@ use Rattle.queries.specs.Chain.{chainAt, totalOf}
 use Rattle.queries.specs.Chain as chains
 use Rattle.queries.specs.Statement.{statementOf}
 use Rattle.queries.specs.declared.statements.StatementReply.{StatementReply}
-use Rattle.history.specs.History.{History, points, fate, entriesOf, toArrears, refundsPaid, customers}
-use Rattle.history.specs.Laws.{In, newest, older, Sums, sumsOf, Once, Again}
+use Rattle.history.specs.History.{History, points, fate, amounts, entriesOf, toArrears, refundsPaid, customers}
+use Rattle.history.specs.Laws.{In, newest, older, Sums, sumsOf, Refunds, Once, Each}
 use Rattle.history.specs.Queries.{statementBy, statementIn}
 use Rattle.history.specs.Agreement.{Kept}
 use Rattle.history.specs.Calls.{Call, answersIn, historyOf}
@@ -32,9 +32,9 @@ middle : (x : History) (e : Raw) (y : History) → In e (x ++ e ∷ y)
 middle [] e y = newest refl
 middle (r ∷ x) e y = older (middle x e y)
 
-once-in : (x y z : History) (c d : Raw) → Once (x ++ c ∷ (y ++ d ∷ z)) → Again c d → ⊥
-once-in [] y z c d o w = o .0 d (middle y d z) w
-once-in (r ∷ x) y z c d o w = once-in x y z c d (o .1) w
+each-at : (P : Raw → History → Type 0) (x : History) (c : Raw) (g : History) → Each P (x ++ c ∷ g) → P c g
+each-at P [] c g w = w .0
+each-at P (r ∷ x) c g w = each-at P x c g (w .1)
 
 -- an account's sums with a statement's figures
 abbrev Balances : Sums → StatementReply → Type 0
@@ -77,6 +77,10 @@ module _ (cs : List Call) where
   counted : (e : Raw) → In e h → kindOf (e .kind) ≡ kind.Contribution → fate h e .added ≡ customers h e
   counted e m k = omega (arith, demand3 cs .lawful .counted e m k)
 
+  refunds : (x g : History) (c e : Raw) → h ≡ x ++ c ∷ g → In e g → kindOf (c .kind) ≡ kind.AddedCustomer → points c e ≡ true →
+      amounts g c .settled + amounts g c .paidOut ≡ min (fate g e .held) (e .amount * c .a / (e .a * (customers g e + 2)))
+  refunds x g c e q m k p = omega (arith, each-at Refunds x c g (subst (λ y. Each Refunds y) q (demand3 cs .lawful .refunds)) e m k p)
+
   contributed : (c : Raw) → In c h → kindOf (c .kind) ≡ kind.AddedCustomer → (e : Raw) × In e h × (kindOf (e .kind) ≡ kind.Contribution) × (points c e ≡ true)
   contributed c m k = let w = demand3 cs .lawful .contributed c m k in (w .entry, w .member, w .contribution, w .aimed)
 
@@ -86,7 +90,8 @@ module _ (cs : List Call) where
   once : (x y z : History) (c d : Raw) → h ≡ x ++ c ∷ (y ++ d ∷ z) → kindOf (c .kind) ≡ kind.Correction → kindOf (d .kind) ≡ kind.Correction →
       c .account ≡ d .account → c .«named_node» ≡ d .«named_node» → c .«named_serial» ≡ d .«named_serial» → ⊥
   once x y z c d q k l a n s =
-      once-in x y z c d (subst (λ g. Once g) q (demand3 cs .lawful .once)) (record { first = k; second = l; account = a; node = n; serial = s })
+      each-at Once x c (y ++ d ∷ z) (subst (λ g. Each Once g) q (demand3 cs .lawful .once)) d (middle y d z)
+      (record { first = k; second = l; account = a; node = n; serial = s })
 
   -- no amount and no count comes near its limit
   unsaturated : (a : ℕ) → 1 ≤ a → a ≤ 128 → (accountAt b a .arrears .0 < most) × (accountAt b a .credit .0 < most) × (accountAt b a .deposit .0 < most)

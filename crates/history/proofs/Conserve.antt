@@ -12,9 +12,9 @@ use Rattle.entries.specs.declared.kinds.Kind.{Kind}
 use Rattle.entries.specs.declared.kinds.Kind.the-variants as kind
 use Rattle.rules.specs.Formulas.{billed, interest}
 use Rattle.history.specs.History.{History, naming, names, found, find, Fate, fateOf, posted, refundOf, change, fate, Balance, Move, stays, charges, credits, refunds, deposits, returns, retains, moved, moveBy, balance, Amounts, answered, amounts, judge, filter, onAccount, entriesOf, Reading, total, amountOf, standingAmount, heldOf, addedUp, customers}
-use Rattle.history.specs.Laws.{Valid, empty, joins, In, newest, older, Sums, sumsBy, sumsOf, Conserved, Divided}
+use Rattle.history.specs.Laws.{Valid, empty, joins, In, newest, older, Sums, sumsBy, sumsOf, Conserved, Divided, Refunds, Each}
 use Rattle.history.proofs.Accept.{Sort, as-contribution, as-added, as-bill, as-payment, as-deposit, as-return, as-expiry, as-correction, correctable, sorted, Role, alone, upon, role}
-use Rattle.history.proofs.Names.{pointed, hit, fate-new, customers-new, Misses, none, miss, Hits, first, later, plain, misses-kind, hits, names-found, names-points, fate-cases, fate-miss, fate-hit, customers-miss, customers-hit, customers-other}
+use Rattle.history.proofs.Names.{pointed, hit, added-found, fate-new, customers-new, Misses, none, miss, Hits, first, later, plain, misses-kind, hits, names-found, names-points, fate-cases, fate-miss, fate-hit, customers-miss, customers-hit, customers-other}
 use Rattle.history.proofs.Moves.{move-contribution, move-bill, move-payment, move-deposit, move-return, move-added, move-expiry, move-correction, corrects, restates-cases}
 
 -- a sum over the entries that pass a test: an entry's own part, and the rest
@@ -247,3 +247,17 @@ divide (joins {r} {h} v j) e (older t) c = go (divide v e t c) (names r e) refl
     go : Parted h e → (u : Bool) → names r e ≡ u → Parted (r ∷ h) e
     go l true n = divided-hit v r j e t c n l (sorted h r j)
     go l false n = divided-miss v r j e n l
+
+-- EACH REFUND
+refund-new : {h : History} → Valid h → (c : Raw) → judge h c ≡ 0 → Refunds c h
+unfolding amounts
+refund-new {h} v c j e m k p =
+    let w = added-found c (sorted h c j) k in
+    let same : w .entry ≡ e = sym (names-found v c (w .place) (w .entry) (w .at) e m (names-points c e (ap naming k) p)) in
+    let at : find h c ≡ found (w .place) e = w .at ∙ ap (λ y. found (w .place) y) same in
+    let kinded : kindOf (e .kind) ≡ kind.Contribution = subst (λ (y : Raw). kindOf (y .kind) ≡ kind.Contribution) same (w .contribution) in
+    rw (move-added h c (balance h (c .account)) (w .place) e at k, ← divide v e m kinded .1) (omega arith)
+
+pub refunds-all : {h : History} → Valid h → Each Refunds h
+refunds-all empty = tt
+refunds-all (joins {r} v j) = (refund-new v r j, refunds-all v)

@@ -8,7 +8,7 @@ use Rattle.history.specs.History.{History, judge, joined, offer, offers}
 use Rattle.history.specs.Laws.{Valid, empty, joins, Lawful, Bounded, Laws}
 use Rattle.history.proofs.Accept.{fits}
 use Rattle.history.proofs.Names.{refunded, in-period, once}
-use Rattle.history.proofs.Conserve.{conserve, divide}
+use Rattle.history.proofs.Conserve.{conserve, divide, refunds-all}
 use Rattle.history.proofs.Bound.{bounded, added-small}
 
 lawful : (h : History) → Valid h → Lawful h
@@ -16,6 +16,7 @@ lawful h v =
     record {
       conserved = λ a. conserve v a;
       divided = λ e m c. divide v e m c .0;
+      refunds = refunds-all v;
       counted = λ e m c. omega (arith, divide v e m c);
       contributed = λ c m k. refunded v c m k .0;
       in-period = λ c e m n k p. omega (arith, in-period v c e m n k p);

@@ -13,7 +13,7 @@ use Rattle.entries.specs.declared.kinds.Kind.{Kind}
 use Rattle.entries.specs.declared.kinds.Kind.the-variants as kind
 use Rattle.entries.proofs.Ranges.{both-true}
 use Rattle.history.specs.History.{period, History, lastSerial, naming, points, names, Sought, missing, found, find, Fate, posted, change, fate, Amounts, amounts, judge, ofCustomers}
-use Rattle.history.specs.Laws.{Valid, empty, joins, In, newest, older, Contributed, Again, Once}
+use Rattle.history.specs.Laws.{Valid, empty, joins, In, newest, older, Contributed, Again, Once, Each}
 use Rattle.history.proofs.Accept.{accepts, Sort, as-contribution, as-added, as-bill, as-payment, as-deposit, as-return, as-expiry, as-correction, sorted, Role, alone, upon, role}
 
 -- last serials rise
@@ -249,23 +249,35 @@ unfolding names
 names-points c x k p = rw (k, p)
 
 -- LAW: each added customer has its contribution, and a day in its period
+pub record Found (h : History) (c : Raw) : Type 0 where
+  pub place : ℕ
+  pub entry : Raw
+  pub at : find h c ≡ found place entry
+  pub contribution : kindOf (entry .kind) ≡ kind.Contribution
+  pub day : c .day < entry .day + period
+
+pub added-found : {h : History} (c : Raw) → Sort h c → kindOf (c .kind) ≡ kind.AddedCustomer → Found h c
+added-found c (as-contribution q) k = let z : _≡_ {A = ℕ} 0 1 = cc in absurd (omega arith)
+added-found c (as-added q i x f l d) k = record { place = i; entry = x; at = f; contribution = l; day = d }
+added-found c (as-bill q) k = let z : _≡_ {A = ℕ} 0 1 = cc in absurd (omega arith)
+added-found c (as-payment q) k = let z : _≡_ {A = ℕ} 0 1 = cc in absurd (omega arith)
+added-found c (as-deposit q n a) k = let z : _≡_ {A = ℕ} 0 1 = cc in absurd (omega arith)
+added-found c (as-return q) k = let z : _≡_ {A = ℕ} 0 1 = cc in absurd (omega arith)
+added-found c (as-expiry q i x f l o) k = let z : _≡_ {A = ℕ} 0 1 = cc in absurd (omega arith)
+added-found c (as-correction q i x f b l u) k = let z : _≡_ {A = ℕ} 0 1 = cc in absurd (omega arith)
+
 abbrev pub Refunded : History → Raw → Type 0
 Refunded h c = (w : Contributed h c) × (c .day < w .entry .day + period)
 
-refunded-sort : {h : History} → Valid h → (c : Raw) → Sort h c → kindOf (c .kind) ≡ kind.AddedCustomer → Refunded (c ∷ h) c
-refunded-sort v c (as-contribution q) k = let z : _≡_ {A = ℕ} 0 1 = cc in absurd (omega arith)
-refunded-sort v c (as-added q i x f l d) k =
-    let w = hit v c i x f in (record { entry = x; member = older (w .member); contribution = l; aimed = w .aimed }, d)
-refunded-sort v c (as-bill q) k = let z : _≡_ {A = ℕ} 0 1 = cc in absurd (omega arith)
-refunded-sort v c (as-payment q) k = let z : _≡_ {A = ℕ} 0 1 = cc in absurd (omega arith)
-refunded-sort v c (as-deposit q n a) k = let z : _≡_ {A = ℕ} 0 1 = cc in absurd (omega arith)
-refunded-sort v c (as-return q) k = let z : _≡_ {A = ℕ} 0 1 = cc in absurd (omega arith)
-refunded-sort v c (as-expiry q i x f l o) k = let z : _≡_ {A = ℕ} 0 1 = cc in absurd (omega arith)
-refunded-sort v c (as-correction q i x f b l u) k = let z : _≡_ {A = ℕ} 0 1 = cc in absurd (omega arith)
+refunded-new : {h : History} → Valid h → (r : Raw) → judge h r ≡ 0 → kindOf (r .kind) ≡ kind.AddedCustomer → Refunded (r ∷ h) r
+refunded-new {h} v r j k =
+    let w = added-found r (sorted h r j) k in
+    let x = hit v r (w .place) (w .entry) (w .at) in
+    (record { entry = w .entry; member = older (x .member); contribution = w .contribution; aimed = x .aimed }, w .day)
 
 pub refunded : {h : History} → Valid h → (c : Raw) → In c h → kindOf (c .kind) ≡ kind.AddedCustomer → Refunded h c
 refunded (joins {r} {h} v j) c (newest q) k =
-    subst (λ y. kindOf (y .kind) ≡ kind.AddedCustomer → Refunded (r ∷ h) y) q (refunded-sort v r (sorted h r j)) k
+    subst (λ y. kindOf (y .kind) ≡ kind.AddedCustomer → Refunded (r ∷ h) y) q (refunded-new v r j) k
 refunded (joins v j) c (older t) k =
     let w = refunded v c t k in
     let x = w .0 in
@@ -288,7 +300,7 @@ corrected-by (r ∷ h) d e (newest q) k p =
 corrected-by (r ∷ h) d e (older t) k p =
     let ih = corrected-by h d e t k p in fate-cases (λ f. f .corrected ≡ true) (names r e) (kindOf (r .kind)) r e (fate h e) ih ih ih refl
 
-pub once : {h : History} → Valid h → Once h
+pub once : {h : History} → Valid h → Each Once h
 once empty = tt
 once (joins {r = c} {h} v j) = (λ d m w. go (sorted h c j) d m w, once v)
   where

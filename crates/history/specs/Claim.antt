@@ -56,7 +56,7 @@ pub record Right (cs : List Call) : Type 0 where
   pub held : (a : ℕ) → 1 ≤ a → a ≤ accounts → totalOf chains.heldOf (chainAt (bookOf cs) a) ≡ total heldOf (historyOf cs) (entriesOf (historyOf cs) a)
   -- it keeps the history's entries, chains and last serials too
   pub kept : Kept (bookOf cs) (historyOf cs)
-  -- the history's sums, and no two corrections on one account that name the same entry
+  -- the claims of the history: sums, contributions, refunds with their days, corrections
   pub lawful : Lawful (historyOf cs)
   -- bounds within which no sum saturates
   pub bounded : Bounded (historyOf cs)

@@ -1,5 +1,5 @@
 -- What holds of every history that offers give, from the empty one on.
-use Prim.Native.Nat.{ℕ, _+_, _≤_, _<_}
+use Prim.Native.Nat.{ℕ, _+_, _*_, _/_, min, _≤_, _<_}
 use mathlib.Core.Path.{_≡_}
 use mathlib.Core.Bool.{true}
 use mathlib.Core.List.{List, [], _∷_}
@@ -7,7 +7,7 @@ use lib.ListN.{length}
 use Rattle.entries.specs.Kinds.{kindOf}
 use Rattle.entries.specs.declared.raw.Raw.{Raw}
 use Rattle.entries.specs.declared.kinds.Kind.the-variants as kind
-use Rattle.history.specs.History.{History, Amounts, entries, period, points, fate, Balance, balance, judge, offers, entriesOf, Reading, total, amountOf, standingAmount, heldOf, addedUp, toArrears, refundsPaid, customers}
+use Rattle.history.specs.History.{History, Amounts, entries, period, points, fate, Balance, balance, amounts, judge, offers, entriesOf, Reading, total, amountOf, standingAmount, heldOf, addedUp, toArrears, refundsPaid, customers}
 
 -- the histories that offers give: no refusal stopped any entry, read against those before it
 pub data Valid : History → Type 0 where
@@ -64,6 +64,13 @@ Conserved s =
 abbrev pub Divided : History → Raw → Type 0
 Divided h e = e .amount ≡ toArrears h e + refundsPaid h e + fate h e .held + fate h e .retained
 
+-- An added customer c, after h: its refund, settled and paid out, is the smaller of held and
+-- floor(contribution × metres shared / (metres built × k)), k = 2 plus the added customers of the contribution before.
+abbrev pub Refunds : Raw → History → Type 0
+Refunds c h =
+    (e : Raw) → In e h → kindOf (c .kind) ≡ kind.AddedCustomer → points c e ≡ true →
+    amounts h c .settled + amounts h c .paidOut ≡ min (fate h e .held) (e .amount * c .a / (e .a * (customers h e + 2)))
+
 -- two corrections on one account that name the same entry
 pub record Again (c d : Raw) : Type 0 where
   pub first : kindOf (c .kind) ≡ kind.Correction
@@ -72,10 +79,14 @@ pub record Again (c d : Raw) : Type 0 where
   pub node : c .«named_node» ≡ d .«named_node»
   pub serial : c .«named_serial» ≡ d .«named_serial»
 
--- no entry corrects what an older one has corrected
-abbrev pub Once : History → Type 0
-Once [] = Unit {0}
-Once (c ∷ h) = ((d : Raw) → In d h → Again c d → ⊥) × Once h
+-- c corrects nothing that an older entry has corrected
+abbrev pub Once : Raw → History → Type 0
+Once c h = (d : Raw) → In d h → Again c d → ⊥
+
+-- what holds of every entry and those older than it
+abbrev pub Each : (Raw → History → Type 0) → History → Type 0
+Each P [] = Unit {0}
+Each P (c ∷ h) = P c h × Each P h
 
 -- the contribution of an added customer c
 pub record Contributed (h : History) (c : Raw) : Type 0 where
@@ -90,13 +101,14 @@ pub record Lawful (h : History) : Type 0 where
   pub conserved : (a : ℕ) → Conserved (sumsOf h a)
   -- each contribution's refunds to arrears and paid out, what is held, and its expiry's retained
   pub divided : (e : Raw) → In e h → kindOf (e .kind) ≡ kind.Contribution → Divided h e
-  -- k counts the added customers of a contribution, all of them
+  -- each refund, and that k counts the added customers of a contribution, all of them
+  pub refunds : Each Refunds h
   pub counted : (e : Raw) → In e h → kindOf (e .kind) ≡ kind.Contribution → fate h e .added ≡ customers h e
   -- refunds are the added customers, with their days: each has its contribution, and none is 1,826 days or more after it
   pub contributed : (c : Raw) → In c h → kindOf (c .kind) ≡ kind.AddedCustomer → Contributed h c
   pub in-period : (c e : Raw) → In c h → In e h → kindOf (c .kind) ≡ kind.AddedCustomer → points c e ≡ true → c .day < e .day + period
   -- no two corrections on one account name the same entry
-  pub once : Once h
+  pub once : Each Once h
 
 -- a bound on an account's amounts: 1,024 entries, none of which moves more than 10^12 cents
 abbrev pub amountBound : ℕ
