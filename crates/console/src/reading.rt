@@ -1,5 +1,8 @@
 // A line of text as a letter and decimal numbers.
 ghost use Prim.Native.Nat.{_≤_};
+ghost use mathlib.Core.Path.{_≡_};
+ghost use lib.ListN.{drop};
+ghost use Rattle.console.specs.Numbers.{digitOf, numberIn};
 
 // The longest line that is read. A comment may be longer.
 pub const LONGEST: usize = 4095;
@@ -23,7 +26,7 @@ struct Parsed {
 
 // A digit's value, and 10 for any other byte.
 fn digit(byte: u8) -> u64
-    ensures { λ r. ⌜ r ≤ 10 ⌝ }
+    ensures { λ r. ⌜ (r ≤ 10) × (r ≡ digitOf byte) ⌝ }
 {
     if byte < b'0' {
         return 10;
@@ -37,7 +40,7 @@ fn digit(byte: u8) -> u64
 
 // The number that begins at a place. Where none does, or one beyond 64 bits, the place after it is the place itself.
 fn number(line: &[u8], from: usize) -> Parsed
-    ensures { λ r. ⌜ from ≤ r .next ⌝ }
+    ensures { λ r. ⌜ (from ≤ r .next) × (r ≡ numberIn from (drop from (now (line .entry))) 0 from) ⌝ }
 {
     let mut at = from;
     let mut value: u64 = 0;
