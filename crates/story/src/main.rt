@@ -1,4 +1,4 @@
-// Two nodes of a pair: posts the entries of a table to their books, carries entries over, and prints the statements of both.
+// Two nodes of a pair: posts entries to their books, carries entries over, and prints the statements of both.
 use book::Book;
 use carry::AT_ONCE;
 use carry::carry_first;
@@ -6,27 +6,29 @@ use entries::Raw;
 use image::LoadAnswer;
 use image::Loaded;
 use printer::print_loaded;
-use tables::read_row;
-use tables::start_of_number;
 
-struct Pair {
-    first: Book,
-    second: Book,
-}
-
-// The entry of a row: kind, node, account, day, serial, amount, named node, named serial, a, b from field 2 on.
-fn raw(fields: [u32; 12]) -> Raw {
+// An entry of account 9. Where it names another, that is node 1's.
+fn entry(
+    kind: u8,
+    node: u8,
+    day: u16,
+    serial: u32,
+    amount: u32,
+    named_serial: u32,
+    a: u16,
+    b: u8,
+) -> Raw {
     Raw {
-        kind: (fields[2] % 256) as u8,
-        node: (fields[3] % 256) as u8,
-        account: (fields[4] % 65536) as u16,
-        day: (fields[5] % 65536) as u16,
-        serial: fields[6],
-        amount: fields[7],
-        named_serial: fields[9],
-        a: (fields[10] % 65536) as u16,
-        b: (fields[11] % 256) as u8,
-        named_node: (fields[8] % 256) as u8,
+        kind,
+        node,
+        account: 9,
+        day,
+        serial,
+        amount,
+        named_serial,
+        a,
+        b,
+        named_node: if named_serial == 0 { 0 } else { 1 },
     }
 }
 
@@ -69,56 +71,34 @@ fn show(name: &[u8], book: Book) {
     });
 }
 
-// Field 0: 1 posts and 2 carries over, to the book of the node of field 1; 3 prints the statements of both nodes.
-fn step(pair: Pair, fields: [u32; 12]) -> Pair {
-    let first = pair.first;
-    let second = pair.second;
-    let what = fields[0];
-    let node = fields[1];
-    if what == 3 {
-        show(b"node 1:\n", first);
-        show(b"node 2:\n", second);
-        return pair;
-    }
-    let book = if node == 1 { first } else { second };
-    let after = if what == 1 {
-        post(book, raw(fields))
-    } else {
-        carry(book, raw(fields))
-    };
-    if node == 1 {
-        Pair {
-            first: after,
-            second,
-        }
-    } else {
-        Pair {
-            first,
-            second: after,
-        }
-    }
-}
-
-fn steps(text: &[u8]) {
-    let mut pair = Pair {
-        first: Book::fresh(),
-        second: Book::fresh(),
-    };
-    let mut at = start_of_number(text, 0);
-    let mut left = text.len();
-    while 0 < left {
-        if at < text.len() {
-            let row = read_row(text, at, 12);
-            let fields = row.fields;
-            pair = step(pair, fields);
-            at = start_of_number(text, row.next);
-        }
-        left -= 1;
-    }
+fn show_both(first: Book, second: Book) {
+    show(b"node 1:\n", first);
+    show(b"node 2:\n", second);
 }
 
 fn main() {
-    let mut text = [0u8; 8192];
-    let n = io::read_full(0, &mut text);
-    steps(&text[..n]);
+    // Node 1 takes a contribution of 60,000 for 100 m of one phase and a bill of 12,000; both are carried over to node 2.
+    let contribution = entry(1, 1, 100, 1, 60000, 0, 100, 1);
+    let bill = entry(3, 1, 110, 2, 12000, 0, 30, 30);
+    let mut first = post(post(Book::fresh(), contribution), bill);
+    let mut second = carry(carry(Book::fresh(), contribution), bill);
+    show_both(first, second);
+
+    // The link breaks. Node 1 corrects the bill to 10,000, node 2 corrects the same bill to 9,000.
+    let to_ten = entry(8, 1, 120, 3, 10000, 2, 0, 0);
+    let to_nine = entry(8, 2, 121, 1, 9000, 2, 0, 0);
+    first = post(first, to_ten);
+    second = post(second, to_nine);
+    show_both(first, second);
+
+    // The link is back. Each correction is carried over to the other node, which has corrected the bill already: refused by 16.
+    first = carry(first, to_nine);
+    second = carry(second, to_ten);
+    show_both(first, second);
+
+    // A customer joins, for the whole line: a refund of 30,000. It settles the arrears, and only the rest is paid out.
+    let customer = entry(2, 1, 130, 4, 0, 1, 100, 1);
+    first = post(first, customer);
+    second = carry(second, customer);
+    show_both(first, second);
 }

@@ -1,0 +1,315 @@
+// The calls: each takes the session and its line's numbers, and gives the next session and the numbers of its answer.
+use crate::shapes::PLACES;
+use crate::shapes::at;
+use crate::writing::first;
+use book::Book;
+use carry::AT_ONCE;
+use carry::carry_first;
+use entries::Raw;
+use image::LoadAnswer;
+use image::Saved;
+use image::load;
+use image::save;
+use queries::contribution_query;
+use queries::statement;
+
+// What lasts from line to line, beside the lent buffer.
+pub struct Session {
+    // The book that calls go to, and the other.
+    pub book: Book,
+    pub other: Book,
+    // The number of the book that calls go to.
+    pub current: u64,
+    // The entries for a carry-over.
+    pub list: [Raw; AT_ONCE],
+    pub listed: usize,
+    // The lines read.
+    pub lines: u64,
+}
+
+// How many numbers the answer has; they stand at the start of the lent list.
+pub struct Called {
+    pub session: Session,
+    pub count: usize,
+}
+
+fn flag(b: bool) -> u64 {
+    if b { 1 } else { 0 }
+}
+
+// The entry of a line's ten numbers.
+pub fn entry(numbers: &[u64]) -> Raw {
+    Raw {
+        kind: (at(numbers, 0) % 256) as u8,
+        node: (at(numbers, 1) % 256) as u8,
+        account: (at(numbers, 2) % 65536) as u16,
+        day: (at(numbers, 3) % 65536) as u16,
+        serial: (at(numbers, 4) % 4294967296) as u32,
+        amount: (at(numbers, 5) % 4294967296) as u32,
+        named_serial: (at(numbers, 6) % 4294967296) as u32,
+        a: (at(numbers, 7) % 65536) as u16,
+        b: (at(numbers, 8) % 256) as u8,
+        named_node: (at(numbers, 9) % 256) as u8,
+    }
+}
+
+// Puts a number at a place of a list, where it has room, and gives the place after it.
+fn put(answer: &mut [u64], at: usize, number: u64) -> usize {
+    if at < answer.len() {
+        answer[at] = number;
+        return at + 1;
+    }
+    at
+}
+
+// Puts the numbers of an answer at the start of a list, and gives how many it has.
+fn tell(answer: &mut [u64], numbers: &[u64]) -> usize {
+    let mut at: usize = 0;
+    let mut i: usize = 0;
+    while i < numbers.len() {
+        at = put(answer, at, numbers[i]);
+        i += 1;
+    }
+    at
+}
+
+fn wide(byte: u8) -> u64 {
+    byte as u64
+}
+
+// Puts bytes into a list from a place on, and gives how many numbers it then has.
+fn tell_bytes(answer: &mut [u64], from: usize, bytes: &[u8]) -> usize {
+    let mut at = from;
+    let mut i: usize = 0;
+    while i < bytes.len() {
+        at = put(answer, at, wide(bytes[i]));
+        i += 1;
+    }
+    at
+}
+
+// s: a statement.
+fn state(book: Book, account: u16, allowance: u64, answer: &mut [u64]) -> usize {
+    let r = statement(book, account, allowance).reply();
+    let numbers = [
+        r.refusal as u64,
+        r.arrears,
+        r.credit,
+        r.deposit,
+        r.held,
+        r.links_read as u64,
+        r.bills,
+        r.payments,
+        flag(r.complete),
+    ];
+    tell(answer, &numbers)
+}
+
+// q: a contribution query.
+fn query(book: Book, account: u16, node: u8, serial: u32, answer: &mut [u64]) -> usize {
+    let r = contribution_query(book, account, node, serial).reply();
+    let numbers = [
+        r.refusal as u64,
+        r.amount,
+        r.to_arrears,
+        r.paid_out,
+        r.held,
+        r.retained,
+        r.added as u64,
+        flag(r.closed),
+    ];
+    tell(answer, &numbers)
+}
+
+// w: a save into the first bytes of the buffer.
+fn save_into(book: Book, size: u64, buffer: &mut [u8], answer: &mut [u64]) -> usize {
+    let n = first(buffer, size as usize);
+    match save(book, &mut buffer[..n]) {
+        Saved::Refused(refusal) => tell(answer, &[refusal.number() as u64, 0]),
+        Saved::Length(bytes) => tell(answer, &[0, bytes as u64]),
+    }
+}
+
+// Sets the byte so many places after a place, where the buffer has it.
+fn set_byte(buffer: &mut [u8], from: u64, offset: usize, byte: u64) {
+    let start = first(buffer, from as usize);
+    if offset < buffer.len() - start {
+        buffer[start + offset] = (byte % 256) as u8;
+    }
+}
+
+// x: sets bytes of the buffer from a place on.
+fn set(buffer: &mut [u8], numbers: &[u64], count: usize, answer: &mut [u64]) -> usize {
+    let from = at(numbers, 0);
+    let mut i: usize = 1;
+    while i < count {
+        set_byte(buffer, from, i - 1, at(numbers, i));
+        i += 1;
+    }
+    tell(answer, &[i as u64 - 1])
+}
+
+// d: so many bytes of the buffer from a place on.
+fn show(buffer: &[u8], from: u64, count: u64, answer: &mut [u64]) -> usize {
+    let a = first(buffer, from as usize);
+    let rest = &buffer[a..];
+    let n = first(rest, count as usize);
+    tell_bytes(answer, 0, &rest[..n])
+}
+
+impl Session {
+    pub fn fresh() -> Session {
+        let unused = Raw {
+            kind: 0,
+            node: 0,
+            account: 0,
+            day: 0,
+            serial: 0,
+            amount: 0,
+            named_serial: 0,
+            a: 0,
+            b: 0,
+            named_node: 0,
+        };
+        Session {
+            book: Book::fresh(),
+            other: Book::fresh(),
+            current: 1,
+            list: [unused; AT_ONCE],
+            listed: 0,
+            lines: 0,
+        }
+    }
+
+    // b: calls go to the book of a number from now on.
+    fn turned(self, number: u64, answer: &mut [u64]) -> Called {
+        let numbers = [number];
+        let count = tell(answer, &numbers);
+        if number == self.current {
+            return Called {
+                session: self,
+                count,
+            };
+        }
+        let book = self.other;
+        let other = self.book;
+        let list = self.list;
+        Called {
+            session: Session {
+                book,
+                other,
+                current: number,
+                list,
+                listed: self.listed,
+                lines: self.lines,
+            },
+            count,
+        }
+    }
+
+    // p: a posting.
+    fn posted(mut self, entry: Raw, answer: &mut [u64]) -> Called {
+        let posted = self.book.post(entry);
+        let next = posted.book;
+        self.book = next;
+        let given = posted.answer;
+        let r = given.reply();
+        let numbers = [
+            r.refusal as u64,
+            r.number as u64,
+            r.settled,
+            r.paid_out,
+            r.retained,
+            r.interest,
+        ];
+        Called {
+            session: self,
+            count: tell(answer, &numbers),
+        }
+    }
+
+    // e: puts an entry on the list.
+    fn extended(mut self, entry: Raw, answer: &mut [u64]) -> Called {
+        let i = self.listed;
+        if i < AT_ONCE {
+            self.list[i] = entry;
+            self.listed = i + 1;
+        }
+        let numbers = [self.listed as u64];
+        Called {
+            session: self,
+            count: tell(answer, &numbers),
+        }
+    }
+
+    // o: a carry-over of the list.
+    fn carried(mut self, results: &mut [u8], answer: &mut [u64]) -> Called {
+        let list = self.list;
+        let carried = carry_first(self.book, list, self.listed, results);
+        let next = carried.book;
+        self.book = next;
+        self.listed = 0;
+        let given = carried.answer;
+        let numbers = [given.number() as u64];
+        let count = tell(answer, &numbers);
+        Called {
+            session: self,
+            count: tell_bytes(answer, count, results),
+        }
+    }
+
+    // l: a load of the first bytes of the buffer.
+    fn loaded(mut self, size: u64, buffer: &[u8], answer: &mut [u64]) -> Called {
+        let n = first(buffer, size as usize);
+        let loaded = load(&buffer[..n]);
+        let next = loaded.book;
+        self.book = next;
+        let given = loaded.answer;
+        let count = match given {
+            LoadAnswer::Accepted => tell(answer, &[0, 0]),
+            LoadAnswer::Refused { refusal, record } => {
+                tell(answer, &[refusal.number() as u64, record as u64])
+            }
+        };
+        Called {
+            session: self,
+            count,
+        }
+    }
+
+    // Makes the call of a line that is understood.
+    pub fn called(
+        self,
+        letter: u8,
+        numbers: &[u64],
+        count: usize,
+        buffer: &mut [u8],
+        answer: &mut [u64],
+    ) -> Called {
+        let one = at(numbers, 0);
+        let two = at(numbers, 1);
+        let account = (one % 65536) as u16;
+        let node = (two % 256) as u8;
+        let serial = (at(numbers, 2) % 4294967296) as u32;
+        let told = match letter {
+            b'b' => return self.turned(one, answer),
+            b'p' => return self.posted(entry(numbers), answer),
+            b'e' => return self.extended(entry(numbers), answer),
+            b'o' => {
+                let mut results = [255u8; PLACES];
+                let n = first(&results, one as usize);
+                return self.carried(&mut results[..n], answer);
+            }
+            b'l' => return self.loaded(one, buffer, answer),
+            b's' => state(self.book, account, two, answer),
+            b'q' => query(self.book, account, node, serial, answer),
+            b'w' => save_into(self.book, one, buffer, answer),
+            b'x' => set(buffer, numbers, count, answer),
+            _ => show(buffer, one, two, answer),
+        };
+        Called {
+            session: self,
+            count: told,
+        }
+    }
+}
