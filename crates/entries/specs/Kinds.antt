@@ -1,6 +1,6 @@
 -- The kinds of entries.
 use Prim.Native.Nat.{ℕ}
-use mathlib.Core.Bool.{Bool, true, false, not, _||_}
+use mathlib.Core.Bool.{Bool, cond, not, _||_}
 use mathlib.Core.List.{List, [], _∷_}
 use lib.ListN.{getD}
 use lib.Dec.{eqb}
@@ -41,24 +41,9 @@ sameOf k l = eqb (numberOf k) (numberOf l)
 
 -- the kinds that name another entry
 abbrev pub namesOf : Kind → Bool
-namesOf kind.Unknown = false
-namesOf kind.Contribution = false
-namesOf kind.AddedCustomer = true
-namesOf kind.Bill = false
-namesOf kind.Payment = false
-namesOf kind.Deposit = false
-namesOf kind.DepositReturn = false
-namesOf kind.Expiry = true
-namesOf kind.Correction = true
+namesOf k = sameOf k kind.AddedCustomer || (sameOf k kind.Expiry || sameOf k kind.Correction)
 
--- an added customer and an expiry name a contribution, a correction a bill or a payment; the others name nothing, and so nothing wrongly
+-- of a kind that names one: a correction names a bill or a payment, an added customer and an expiry a contribution
 unfoldable pub misnamesOf : Kind → Kind → Bool
-misnamesOf kind.Unknown l = false
-misnamesOf kind.Contribution l = false
-misnamesOf kind.AddedCustomer l = not (sameOf l kind.Contribution)
-misnamesOf kind.Bill l = false
-misnamesOf kind.Payment l = false
-misnamesOf kind.Deposit l = false
-misnamesOf kind.DepositReturn l = false
-misnamesOf kind.Expiry l = not (sameOf l kind.Contribution)
-misnamesOf kind.Correction l = not (sameOf l kind.Bill || sameOf l kind.Payment)
+misnamesOf k l =
+    cond (sameOf k kind.Correction) (not (sameOf l kind.Bill || sameOf l kind.Payment)) (not (sameOf l kind.Contribution))

@@ -112,34 +112,20 @@ impl Kind {
     pub fn names(self) -> bool
         ensures { λ r. ⌜ r ≡ namesOf self ⌝ }
     {
-        match self {
-            Kind::Unknown => false,
-            Kind::Contribution => false,
-            Kind::AddedCustomer => true,
-            Kind::Bill => false,
-            Kind::Payment => false,
-            Kind::Deposit => false,
-            Kind::DepositReturn => false,
-            Kind::Expiry => true,
-            Kind::Correction => true,
-        }
+        either(
+            self.is(Kind::AddedCustomer),
+            either(self.is(Kind::Expiry), self.is(Kind::Correction)),
+        )
     }
 
-    // Whether an entry of this kind names one of another kind wrongly.
+    // Whether an entry of this kind, which names one, names one of another kind wrongly.
     pub fn misnames(self, other: Kind) -> bool
         ensures { λ r. ⌜ r ≡ misnamesOf self other ⌝ }
     {
-        match self {
-            Kind::Unknown => false,
-            Kind::Contribution => false,
-            Kind::AddedCustomer => !other.is(Kind::Contribution),
-            Kind::Bill => false,
-            Kind::Payment => false,
-            Kind::Deposit => false,
-            Kind::DepositReturn => false,
-            Kind::Expiry => !other.is(Kind::Contribution),
-            Kind::Correction => !either(other.is(Kind::Bill), other.is(Kind::Payment)),
+        if self.is(Kind::Correction) {
+            return !either(other.is(Kind::Bill), other.is(Kind::Payment));
         }
+        !other.is(Kind::Contribution)
     }
 
     // The ranges of the fields, where a is the entry's field a.

@@ -141,17 +141,6 @@ seen-data kind.DepositReturn x f s p = record { of-kind = refl; closed = refl; c
 seen-data kind.Expiry x f s p = record { of-kind = refl; closed = refl; corrected = refl; phases = refl; built = refl }
 seen-data kind.Correction x f s p = record { of-kind = refl; closed = refl; corrected = refl; phases = refl; built = refl }
 
-names-same : (k : Kind) → namesOf k ≡ naming k
-names-same kind.Unknown = refl
-names-same kind.Contribution = refl
-names-same kind.AddedCustomer = refl
-names-same kind.Bill = refl
-names-same kind.Payment = refl
-names-same kind.Deposit = refl
-names-same kind.DepositReturn = refl
-names-same kind.Expiry = refl
-names-same kind.Correction = refl
-
 -- an entry of the book and of the history that the rules read alike
 pub record Alike (e : Entry) (x : Raw) (f : Fate) : Type 0 where
   pub on : e .day .0 ≡ x .day
@@ -166,7 +155,7 @@ module _ {b : Book} {h : History} (w : Agrees b h) (m : length h ≤ entries) wh
   unfolding lookupOf named startOf
   lookup-same r t =
       let i = inside (r .account) 1 accounts t in
-      rw (w .account (r .account) (i .0) (i .1), names-same (kindOf (r .kind)))
+      rw (w .account (r .account) (i .0) (i .1))
       (go (naming (kindOf (r .kind))))
     where
       go : (t : Bool) → findIn (b .entries) r 1024 (cond t (newestOf h (r .account)) 0) ≡ placeOf (cond t (find h r) missing)
@@ -180,7 +169,7 @@ module _ {b : Book} {h : History} (w : Agrees b h) (m : length h ≤ entries) wh
   unfolding named soughtIn
   state-same r t =
       let i = inside (r .account) 1 accounts t in
-      rw (w .account (r .account) (i .0) (i .1), lookup-same r t, names-same k) (go (naming k) refl (find h r) refl)
+      rw (w .account (r .account) (i .0) (i .1), lookup-same r t) (go (naming k) refl (find h r) refl)
     where
       k : Kind
       k = kindOf (r .kind)

@@ -86,17 +86,14 @@ age-below x y = go (ltb (x - y) refundPeriod) refl
     go true e = sym (lt-ltb x (y + period) (omega (arith, ltb-true (x - y) refundPeriod e)))
     go false e = sym (le-ltb x (y + period) (omega (arith, ltb-false (x - y) refundPeriod e)))
 
-misnames-same : (k l : Kind) → misnamesOf k l ≡ (naming k && not (suits k l))
+misnames-same : (k l : Kind) → misnamesOf k l ≡ not (suits k l)
 unfolding misnamesOf
-misnames-same kind.Unknown l = refl
-misnames-same kind.Contribution l = refl
-misnames-same kind.AddedCustomer l = refl
-misnames-same kind.Bill l = refl
-misnames-same kind.Payment l = refl
-misnames-same kind.Deposit l = refl
-misnames-same kind.DepositReturn l = refl
-misnames-same kind.Expiry l = refl
-misnames-same kind.Correction l = refl
+misnames-same k l = go (sameOf k kind.Correction)
+  where
+    go : (t : Bool) → cond t (not (sameOf l kind.Bill || sameOf l kind.Payment)) (not (sameOf l kind.Contribution)) ≡
+        not (cond t (sameOf l kind.Bill || sameOf l kind.Payment) (sameOf l kind.Contribution))
+    go true = refl
+    go false = refl
 
 -- a kind that names an entry is none that doesn't
 naming-not : (k l : Kind) → naming l ≡ false → naming k ≡ true → sameOf k l ≡ false
@@ -197,7 +194,7 @@ module _ (h : History) (r : Raw) (k : Kind) (b : Balance) where
     pub naming-same : Same (rows r k acc true (chains.found i e)) (drop 7 (refusals h r k x f b))
     naming-same =
         let returned = naming-not k kind.DepositReturn refl n in (
-          rw (s .of-kind) (misnames-same k (kindOf (x .kind))),
+          rw (s .of-kind, n) (misnames-same k (kindOf (x .kind))),
           λ suited. (
             rw (naming-not k kind.Deposit refl n, returned) refl,
             (
