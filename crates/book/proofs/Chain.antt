@@ -11,7 +11,6 @@ use borrow.Author.Tests.{eqb-false, ltb-true, ltb-false}
 use Rattle.entries.specs.Entries.{noEntry, pointsAt}
 use Rattle.entries.specs.declared.raw.Raw.{Raw}
 use Rattle.entries.specs.declared.data.Entry.{Entry}
-use Rattle.rules.specs.declared.changes.Found.{Found}
 use Rattle.rules.specs.declared.changes.Found.the-variants.{At, Nothing}
 use Rattle.book.specs.Fresh.{accountsMost, entriesMost}
 use Rattle.book.specs.Chain.{slotOf, endsOf, walksOf, findIn}
@@ -77,20 +76,3 @@ findIn-stops es r fuel at = go (ltb 0 fuel) (endsOf at) refl refl
     go false t l e h =
         let z : fuel ≡ 0 = omega (arith, ltb-false 0 fuel l) in
         rw z (findIn-none es r at)
-
--- what is found stands in the array
-abbrev pub Inside : Found → Type 0
-Inside (At i) = i < entriesMost
-Inside Nothing = Unit {0}
-
-pub find-inside : (fuel : ℕ) (es : List Entry) (r : Raw) (at : ℕ) → Inside (findIn es r fuel at)
-unfolding findIn endsOf
-find-inside zero es r at = tt
-find-inside (suc fuel) es r at = go (eqb at 0) (ltb entriesMost at) (pointsAt r (getD es (at - 1) noEntry)) refl (find-inside fuel es r (getD es (at - 1) noEntry .next))
-  where
-    go : (s t p : Bool) → ltb entriesMost at ≡ t → Inside (findIn es r fuel (getD es (at - 1) noEntry .next)) →
-        Inside (cond (s || t) Nothing (cond p (At (at - 1)) (findIn es r fuel (getD es (at - 1) noEntry .next))))
-    go true t p e i = tt
-    go false true p e i = tt
-    go false false true e i = omega (arith, ltb-false entriesMost at e)
-    go false false false e i = i

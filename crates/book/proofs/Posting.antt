@@ -31,11 +31,10 @@ use Rattle.rules.specs.declared.changes.Outcome.the-variants.{Refused, Accepted
 use Rattle.book.specs.Fresh.{entriesMost}
 use Rattle.book.specs.Refusals.{entryRows, checkEntryOf, searchedOf, outcomeOf}
 use Rattle.book.specs.Serials.{lastOf, afterOf}
-use Rattle.book.specs.Chain.{slotOf, startOf, soughtIn}
+use Rattle.book.specs.Chain.{slotOf, soughtIn}
 use Rattle.book.specs.Posting.{accountAt, lookupOf, rewritten, storedOf, bookAfter, decisionOf, postOf, postsOf}
 use Rattle.book.specs.declared.Book.{Book}
 use Rattle.book.specs.declared.Serials.{Serials}
-use Rattle.book.proofs.Chain.{find-inside}
 
 pub decided-passed : (c : Check) (o : Outcome) (x : Change) → decidedOf c o ≡ Accepted x → (c ≡ check.Passed) × (o ≡ Accepted x)
 unfolding decidedOf
@@ -83,12 +82,6 @@ names-found b r x i e n = go (namesOf (kindOf (r .kind))) (lookupOf b r) (decide
         let none : Nothing ≡ At i = sym (own-names r _ _) ∙ ap (λ (y : Change). y .names) (is _ _ q) ∙ n in
         let z : _≡_ {A = ℕ} 0 1 = cc in
         absurd (omega arith)
-
--- and it stands in the array
-pub names-inside : (b : Book) (r : Raw) (x : Change) (i : ℕ) → decisionOf b r ≡ Accepted x → x .names ≡ At i → i < entriesMost
-unfolding lookupOf
-names-inside b r x i e n =
-    rw (names-found b r x i e n) at (find-inside entriesMost (b .entries) r (startOf (kindOf (r .kind)) (accountAt b (r .account) .newest)))
 
 pub post-refused : (b : Book) (r : Raw) (n : Refusal) → decisionOf b r ≡ Refused n →
     postOf b r ≡ record { book = b; reply = replyOf (answer.Refused n) }

@@ -1,11 +1,10 @@
 -- Laws of the search as the code makes it: it finds what there is to find.
-use Prim.Native.Nat.{ℕ, _-_, _<_, _≤_}
-use mathlib.Core.Path.{_≡_, refl, sym, ap, _∙_}
+use Prim.Native.Nat.{ℕ, _-_, _<_}
+use mathlib.Core.Path.{_≡_, refl, sym, _∙_}
 use mathlib.Core.Bool.{Bool, true, false, cond, not, _&&_}
 use mathlib.Core.List.{List}
 use native.Mathlib.Omega.{arith}
 use lib.ListN.{getD}
-use Rattle.entries.specs.Kinds.{kindOf}
 use Rattle.entries.specs.Entries.{noEntry, pointsAt}
 use Rattle.entries.specs.declared.raw.Raw.{Raw}
 use Rattle.entries.specs.declared.data.Entry.{Entry}
@@ -17,7 +16,7 @@ use Rattle.rules.specs.declared.changes.Outcome.{Outcome}
 use Rattle.rules.specs.declared.changes.Outcome.the-variants.{Accepted}
 use Rattle.book.specs.Fresh.{entriesMost}
 use Rattle.book.specs.Serials.{lastOf}
-use Rattle.book.specs.Chain.{slotOf, endsOf, placeOf, startOf, walksOf, findIn, missing, found, soughtIn}
+use Rattle.book.specs.Chain.{slotOf, endsOf, placeOf, walksOf, findIn, missing, found, soughtIn}
 use Rattle.book.specs.Search.{searchOf, goesOnOf, pastOf, foundOf, soughtOf}
 use Rattle.book.specs.Refusals.{outcomeOf}
 use Rattle.book.specs.Posting.{lookupOf, decisionOf}

@@ -22,7 +22,6 @@ use Rattle.rules.specs.declared.answers.Amounts as four′
 use Rattle.rules.specs.declared.changes.Found.{Found}
 use Rattle.rules.specs.declared.changes.Found.the-variants.{At, Nothing}
 use Rattle.rules.specs.declared.changes.Change.{Change}
-use Rattle.rules.specs.declared.changes.Outcome.the-variants.{Accepted}
 use Rattle.rules.proofs.Plain.{plain}
 use Rattle.history.specs.History.{Fate, posted, refundOf, change, Balance, Move, stays, charges, credits, refunds, deposits, returns, retains, restates, moved, Amounts, answered}
 use Rattle.history.specs.Agreement.{keptAccount, keptData}

@@ -29,11 +29,15 @@ impl Case {
     /// Records that the call loads and entries that it posts.
     pub fn postings(&self) -> usize {
         let loaded = self.image.len() / RECORD - 1;
-        let posted = match &self.call {
+        loaded + self.run_length()
+    }
+
+    /// Entries that it posts.
+    pub fn run_length(&self) -> usize {
+        match &self.call {
             Call::Post { entry: run } | Call::CarryOver { run } => run.len() / RECORD,
             _ => 0,
-        };
-        loaded + posted
+        }
     }
 }
 
@@ -81,6 +85,19 @@ fn runs() -> Vec<Case> {
             &payments,
             &corrections,
         ),
+    ]
+}
+
+/// Runs of one kind, each beside a run of no entries into the same image.
+pub fn postings() -> [[Case; 2]; 2] {
+    let contribution = run(CONTRIBUTION, 1..=1);
+    let chain = [&contribution[..], &run(PAYMENT, 2..=500)].concat();
+    let payments = run(PAYMENT, 501..=1_000);
+    let customers = run(ADDED_CUSTOMER, 501..=1_000);
+    let beside_none = |name, run: &[Raw]| [run, &[]].map(|run| carry_over(name, &chain, run));
+    [
+        beside_none("a payment after a chain of 500", &payments),
+        beside_none("an added customer after a chain of 500", &customers),
     ]
 }
 

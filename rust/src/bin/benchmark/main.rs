@@ -9,7 +9,7 @@ mod printers;
 mod table;
 mod timing;
 
-use books::{Buffers, CALLERS};
+use books::{Buffers, Caller, CALLERS};
 use cases::{Call, Case};
 use contribution_book::plain::{ENTRIES, RECORD};
 use printers::print;
@@ -32,6 +32,11 @@ fn main() {
     let times = time_printers();
     table::print_row(name, ENTRIES, &times);
     table::print_printers(&times);
+    table::print_postings_head();
+    for [run, none] in cases::postings() {
+        compare(&run);
+        table::print_posting(run.name, run.run_length(), &time_postings(&run, &none));
+    }
 }
 
 /// Stops unless all books accept the call and every entry of a run, give the
@@ -54,14 +59,23 @@ fn compare(case: &Case) {
 
 /// The times of `table`'s sides but the processes.
 fn time_case(case: &Case) -> Times<4> {
-    let [proved, plain, by_value] = CALLERS.map(|call| {
-        let mut buffers = Buffers::new();
-        Side::new(move || {
-            black_box(call(black_box(case), &mut buffers));
-            black_box(&buffers);
-        })
-    });
+    let [proved, plain, by_value] = CALLERS.map(|call| side(call, case));
     measure([proved, plain, by_value, copy()])
+}
+
+/// The times of the proved book's call, of the same call with no entries, and
+/// of a copy.
+fn time_postings(run: &Case, none: &Case) -> Times<3> {
+    let [proved, ..] = CALLERS;
+    measure([side(proved, run), side(proved, none), copy()])
+}
+
+fn side(call: Caller, case: &Case) -> Side<'_> {
+    let mut buffers = Buffers::new();
+    Side::new(move || {
+        black_box(call(black_box(case), &mut buffers));
+        black_box(&buffers);
+    })
 }
 
 /// The times of all of `table`'s sides.

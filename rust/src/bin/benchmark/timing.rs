@@ -62,6 +62,11 @@ impl<const N: usize> Times<N> {
         self.median(|times| times[side] - times[other])
     }
 
+    /// How many times the unit's time a side takes longer than the other.
+    pub fn more_in(&self, side: usize, other: usize, unit: usize) -> f64 {
+        self.median(|times| (times[side] - times[other]) / times[unit])
+    }
+
     fn median(&self, figure: impl Fn(&[f64; N]) -> f64) -> f64 {
         let mut sorted: Vec<f64> = self.0.iter().map(figure).collect();
         sorted.sort_by(f64::total_cmp);

@@ -1,5 +1,5 @@
 use Prim.Native.Nat.{_<_, _+_}
-use mathlib.Core.Path.{_≡_, refl, sym, ap, _∙_}
+use mathlib.Core.Path.{_≡_, refl, sym, _∙_}
 use native.Mathlib.Nat.{min-eq-left}
 use native.Mathlib.Omega.{arith}
 use lib.ListN.{set}
@@ -10,7 +10,7 @@ use Rattle.book.specs.Fresh.{entriesMost}
 use Rattle.book.specs.Posting.{lookupOf, decisionOf}
 use Rattle.book.proofs.Chain.{slot-inside}
 use Rattle.book.proofs.Searches.{findsOf, place-inside, begins, nearer, past, decided, rewrites}
-use Rattle.book.proofs.Posting.{room, names-inside, post-refused, rewrites-at, post-accepted}
+use Rattle.book.proofs.Posting.{room, post-refused, rewrites-at, post-accepted}
 use Rattle.book.proofs.Book.post.Statement.{statement}
 use Rattle.book.proofs.Book.post.Tie as tie
 
@@ -125,13 +125,13 @@ enum-known-names c = search needs
 rewritten-requires : tie.Need-rewritten-requires Inv-loop μ-loop
 rewritten-requires c κs = search needs
 
-inside : (c : tie.After-names Inv-loop μ-loop) → c .names .given .0 .0 < entriesMost
-inside c = names-inside (c .before .before .before .before .before .before .before .before .before .before .before .before .before .before .before .before .before .before .before .before .args .t1) (c .before .before .before .before .before .before .before .before .before .before .before .before .before .before .before .before .before .before .before .before .args .raw) (c .before .before .before .before .before .before .outcome2 .given .0 .0) _ (accepted (c .before .before .before .before .before .before)) (c .names .given .1)
-
 rewritten-is : (c : tie.After-names Inv-loop μ-loop) → c .before .before .before .before .before .before .before .before .before .before .before .before .place2 .result ≡ c .names .given .0 .0
 rewritten-is c =
     rewrites (c .before .before .before .before .before .before .before .before .before .before .before .before .before .before .before .before .before .before .before .before .args .t1) (c .before .before .before .before .before .before .before .before .before .before .before .before .before .before .before .before .before .before .before .before .args .raw) (c .before .before .before .before .before .before .before .before .before .before .before .before .before .before .before .loop .search) _ _ (c .before .before .before .before .before .before .outcome2 .given .0 .0) (c .before .before .before .before .before .before .before .before .before .before .before .before .before .before .before .loop .inv)
     (sym (c .before .before .before .before .before .before .before .before .before .before .before .before .before .before .goes-on .ensures) ∙ c .before .before .before .before .before .before .before .before .before .before .before .before .before .if1 .left) (c .before .before .before .before .before .before .before .before .before .before .before .before .place2 .ensures) (accepted (c .before .before .before .before .before .before)) (c .names .given .1)
+
+inside : (c : tie.After-names Inv-loop μ-loop) → c .names .given .0 .0 < entriesMost
+inside c = omega (arith, rewritten-is c, c .before .before .before .before .before .before .before .before .before .before .before .before .place2 .ensures, place-inside (c .before .before .before .before .before .before .before .before .before .before .before .before .before .before .before .loop .search .at))
 
 mul-t41 : tie.Need-mul-t41 Inv-loop μ-loop
 mul-t41 c = let h = inside (c .before .before) in omega arith

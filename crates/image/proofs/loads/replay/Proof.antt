@@ -17,7 +17,7 @@ use Rattle.book.specs.Fresh.{entriesMost}
 use Rattle.book.specs.Posting.{accountAt, lookupOf, decisionOf, postOf}
 use Rattle.book.proofs.Chain.{slot-inside}
 use Rattle.book.proofs.Searches.{findsOf, place-inside, begins, nearer, past, decided, rewrites}
-use Rattle.book.proofs.Posting.{room, names-inside, post-refused, rewrites-at, post-accepted}
+use Rattle.book.proofs.Posting.{room, post-refused, rewrites-at, post-accepted}
 use Rattle.image.specs.Loads.{loadedReply, stopOf}
 use Rattle.image.specs.Replays.{listedIn, endOf, replayOf}
 use Rattle.image.proofs.Replays.{end-refused, end-passed, outcome-number, record-part, restOf, rest-start, replay-less, replay-step, replay-stop, replay-end}
@@ -76,13 +76,13 @@ next-number c =
     let h = not-full c in
     c .before .before .before .before .before .before .before .before .before .before .one-more .ensures ∙ min-eq-left (omega arith)
 
-inside : (c : tie.After-names Inv-loop2 μ-loop2 Inv-loop μ-loop) → c .names .given .0 .0 < entriesMost
-inside c = names-inside (c .before .before .before .before .before .before .before .before .before .before .before .before .before .before .before .before .before .before .before .before .before .before .before .before .before .before .before .before .before .before .before .loop .book) (c .before .before .before .before .before .before .before .before .before .before .before .before .before .before .before .before .before .before .before .before .before .before .before .before .before .before .before .before .record-in .result .raw) (c .before .before .before .before .before .before .outcome2 .given .0 .0) _ (accepted (c .before .before .before .before .before .before)) (c .names .given .1)
-
 rewritten-is : (c : tie.After-names Inv-loop2 μ-loop2 Inv-loop μ-loop) → c .before .before .before .before .before .before .before .before .before .before .before .before .before .before .before .before .before .before .before .place2 .result ≡ c .names .given .0 .0
 rewritten-is c =
     rewrites (c .before .before .before .before .before .before .before .before .before .before .before .before .before .before .before .before .before .before .before .before .before .before .before .before .before .before .before .before .before .before .before .loop .book) (c .before .before .before .before .before .before .before .before .before .before .before .before .before .before .before .before .before .before .before .before .before .before .before .before .before .before .before .before .record-in .result .raw) (c .before .before .before .before .before .before .before .before .before .before .before .before .before .before .before .before .before .before .before .before .before .before .loop2 .search) _ _ (c .before .before .before .before .before .before .outcome2 .given .0 .0) (c .before .before .before .before .before .before .before .before .before .before .before .before .before .before .before .before .before .before .before .before .before .before .loop2 .inv)
     (sym (c .before .before .before .before .before .before .before .before .before .before .before .before .before .before .before .before .before .before .before .before .before .goes-on .ensures) ∙ c .before .before .before .before .before .before .before .before .before .before .before .before .before .before .before .before .before .before .before .before .if1 .left) (c .before .before .before .before .before .before .before .before .before .before .before .before .before .before .before .before .before .before .before .place2 .ensures) (accepted (c .before .before .before .before .before .before)) (c .names .given .1)
+
+inside : (c : tie.After-names Inv-loop2 μ-loop2 Inv-loop μ-loop) → c .names .given .0 .0 < entriesMost
+inside c = omega (arith, rewritten-is c, c .before .before .before .before .before .before .before .before .before .before .before .before .before .before .before .before .before .before .before .place2 .ensures, place-inside (c .before .before .before .before .before .before .before .before .before .before .before .before .before .before .before .before .before .before .before .before .before .before .loop2 .search .at))
 
 loop-holds : tie.Need-loop-holds Inv-loop2 μ-loop2 Inv-loop μ-loop
 loop-holds c = (omega arith, refl, ap (λ rs. replayOf (c .before .before .args .image) rs (c .before .before .args .t1) (now (c .before .before .args .results)) 0) (rest-start (now (c .before .before .args .records))))
