@@ -25,7 +25,7 @@ pub struct Session {
     pub lines: u64,
 }
 
-// How many numbers the answer has; they stand at the start of the lent list.
+// The next book and session, and how many numbers the answer has: they stand at the start of the lent list.
 pub struct Called {
     pub book: Book,
     pub session: Session,
@@ -297,6 +297,15 @@ fn read_call(
     }
 }
 
+// An answer of one number.
+fn told(book: Book, session: Session, number: u64, answer: &mut [u64]) -> Called {
+    Called {
+        book,
+        session,
+        count: tell(answer, &[number]),
+    }
+}
+
 // Makes the call of a line that is understood.
 pub fn call(
     book: Book,
@@ -316,18 +325,10 @@ pub fn call(
             carry(book, session, &mut results[..n], answer)
         }
         b'l' => load_from(session, one, buffer, answer),
-        b'b' => Called {
-            book,
-            session: session.turned(one),
-            count: tell(answer, &[one]),
-        },
+        b'b' => told(book, session.turned(one), one, answer),
         b'e' => {
             let next = session.extended(entry(numbers));
-            Called {
-                book,
-                session: next,
-                count: tell(answer, &[next.listed as u64]),
-            }
+            told(book, next, next.listed as u64, answer)
         }
         _ => Called {
             book,
