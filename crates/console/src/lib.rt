@@ -5,10 +5,12 @@ mod session;
 mod shapes;
 mod writing;
 
+use book::Book;
 pub use reading::LONGEST;
 use reading::Line;
 use reading::NUMBERS;
 pub use session::Session;
+use session::call;
 pub use shapes::BUFFER;
 use shapes::SHOWN;
 use shapes::understood;
@@ -16,27 +18,39 @@ pub use writing::first;
 pub use writing::put;
 use writing::write;
 
-fn one_more(n: u64) -> u64 {
-    if n < u64::MAX { n + 1 } else { n }
+// The book that the call went to and the session, after a line.
+pub struct Answered {
+    pub book: Book,
+    pub session: Session,
 }
 
 // Answers the line of the first so many bytes: makes its call and writes the answer, none where the line is passed over.
-pub fn answer(mut session: Session, bytes: &[u8], length: usize, buffer: &mut [u8]) -> Session {
-    let lines = one_more(session.lines);
-    session.lines = lines;
+pub fn answer(
+    book: Book,
+    start: Session,
+    bytes: &[u8],
+    length: usize,
+    buffer: &mut [u8],
+) -> Answered {
+    let session = start.next_line();
     let n = first(bytes, length);
     let mut numbers = [0u64; NUMBERS];
     match understood(&bytes[..n], session.listed, &mut numbers) {
-        Line::Nothing => session,
+        Line::Nothing => Answered { book, session },
         Line::Unclear => {
-            write(b'?', &[lines], 1);
-            session
+            write(b'?', &[session.lines], 1);
+            Answered { book, session }
         }
         Line::Call { letter, count } => {
             let mut told = [0u64; SHOWN];
-            let called = session.called(letter, &numbers, count, buffer, &mut told);
+            let called = call(book, session, letter, &numbers, count, buffer, &mut told);
             write(letter, &told, called.count);
-            called.session
+            let next = called.book;
+            let after = called.session;
+            Answered {
+                book: next,
+                session: after,
+            }
         }
     }
 }

@@ -1,4 +1,4 @@
-// The calls: each takes the session and its line's numbers, and gives the next session and the numbers of its answer.
+// The calls: each takes the book that it goes to, the session and its line's numbers, and gives the next ones and the numbers of its answer.
 use crate::shapes::PLACES;
 use crate::shapes::at;
 use crate::writing::first;
@@ -12,13 +12,11 @@ use image::load;
 use image::save;
 use queries::contribution_query;
 use queries::statement;
+ghost use Prim.Native.Nat.{_<_};
 
-// What lasts from line to line, beside the lent buffer.
+// What lasts from line to line, beside the books and the lent buffer.
 pub struct Session {
-    // The book that calls go to, and the other.
-    pub book: Book,
-    pub other: Book,
-    // The number of the book that calls go to.
+    // The number of the book that calls go to, 1 or 2.
     pub current: u64,
     // The entries for a carry-over.
     pub list: [Raw; AT_ONCE],
@@ -27,8 +25,9 @@ pub struct Session {
     pub lines: u64,
 }
 
-// How many numbers the answer has; they stand at the start of the lent list.
+// The next book and session, and how many numbers the answer has: they stand at the start of the lent list.
 pub struct Called {
+    pub book: Book,
     pub session: Session,
     pub count: usize,
 }
@@ -172,8 +171,6 @@ impl Session {
             named_node: 0,
         };
         Session {
-            book: Book::fresh(),
-            other: Book::fresh(),
             current: 1,
             list: [unused; AT_ONCE],
             listed: 0,
@@ -181,135 +178,162 @@ impl Session {
         }
     }
 
+    // The place among the books of the one that calls go to.
+    pub fn place(self) -> usize
+        ensures { λ r. ⌜ r < 2 ⌝ }
+    {
+        if self.current == 2 { 1 } else { 0 }
+    }
+
+    // With one line more.
+    pub fn next_line(mut self) -> Session {
+        if self.lines < u64::MAX {
+            self.lines += 1;
+        }
+        self
+    }
+
     // b: calls go to the book of a number from now on.
-    fn turned(self, number: u64, answer: &mut [u64]) -> Called {
-        let numbers = [number];
-        let count = tell(answer, &numbers);
-        if number == self.current {
-            return Called {
-                session: self,
-                count,
-            };
-        }
-        let book = self.other;
-        let other = self.book;
-        let list = self.list;
-        Called {
-            session: Session {
-                book,
-                other,
-                current: number,
-                list,
-                listed: self.listed,
-                lines: self.lines,
-            },
-            count,
-        }
+    fn turned(mut self, number: u64) -> Session {
+        self.current = number;
+        self
     }
 
-    // p: a posting.
-    fn posted(mut self, entry: Raw, answer: &mut [u64]) -> Called {
-        let posted = self.book.post(entry);
-        let next = posted.book;
-        self.book = next;
-        let given = posted.answer;
-        let r = given.reply();
-        let numbers = [
-            r.refusal as u64,
-            r.number as u64,
-            r.settled,
-            r.paid_out,
-            r.retained,
-            r.interest,
-        ];
-        Called {
-            session: self,
-            count: tell(answer, &numbers),
-        }
-    }
-
-    // e: puts an entry on the list.
-    fn extended(mut self, entry: Raw, answer: &mut [u64]) -> Called {
+    // e: with one entry more on the list.
+    fn extended(mut self, entry: Raw) -> Session {
         let i = self.listed;
         if i < AT_ONCE {
             self.list[i] = entry;
             self.listed = i + 1;
         }
-        let numbers = [self.listed as u64];
-        Called {
-            session: self,
-            count: tell(answer, &numbers),
-        }
+        self
     }
 
-    // o: a carry-over of the list.
-    fn carried(mut self, results: &mut [u8], answer: &mut [u64]) -> Called {
-        let list = self.list;
-        let carried = carry_first(self.book, list, self.listed, results);
-        let next = carried.book;
-        self.book = next;
+    // With an empty list.
+    fn emptied(mut self) -> Session {
         self.listed = 0;
-        let given = carried.answer;
-        let numbers = [given.number() as u64];
-        let count = tell(answer, &numbers);
-        Called {
-            session: self,
-            count: tell_bytes(answer, count, results),
-        }
+        self
     }
+}
 
-    // l: a load of the first bytes of the buffer.
-    fn loaded(mut self, size: u64, buffer: &[u8], answer: &mut [u64]) -> Called {
-        let n = first(buffer, size as usize);
-        let loaded = load(&buffer[..n]);
-        let next = loaded.book;
-        self.book = next;
-        let given = loaded.answer;
-        let count = match given {
-            LoadAnswer::Accepted => tell(answer, &[0, 0]),
-            LoadAnswer::Refused { refusal, record } => {
-                tell(answer, &[refusal.number() as u64, record as u64])
-            }
-        };
-        Called {
-            session: self,
-            count,
-        }
+// p: a posting.
+fn post(book: Book, session: Session, entry: Raw, answer: &mut [u64]) -> Called {
+    let posted = book.post(entry);
+    let given = posted.answer;
+    let r = given.reply();
+    let numbers = [
+        r.refusal as u64,
+        r.number as u64,
+        r.settled,
+        r.paid_out,
+        r.retained,
+        r.interest,
+    ];
+    let count = tell(answer, &numbers);
+    let next = posted.book;
+    Called {
+        book: next,
+        session,
+        count,
     }
+}
 
-    // Makes the call of a line that is understood.
-    pub fn called(
-        self,
-        letter: u8,
-        numbers: &[u64],
-        count: usize,
-        buffer: &mut [u8],
-        answer: &mut [u64],
-    ) -> Called {
-        let one = at(numbers, 0);
-        let two = at(numbers, 1);
-        let account = (one % 65536) as u16;
-        let node = (two % 256) as u8;
-        let serial = (at(numbers, 2) % 4294967296) as u32;
-        let told = match letter {
-            b'b' => return self.turned(one, answer),
-            b'p' => return self.posted(entry(numbers), answer),
-            b'e' => return self.extended(entry(numbers), answer),
-            b'o' => {
-                let mut results = [255u8; PLACES];
-                let n = first(&results, one as usize);
-                return self.carried(&mut results[..n], answer);
-            }
-            b'l' => return self.loaded(one, buffer, answer),
-            b's' => state(self.book, account, two, answer),
-            b'q' => query(self.book, account, node, serial, answer),
-            b'w' => save_into(self.book, one, buffer, answer),
-            b'x' => set(buffer, numbers, count, answer),
-            _ => show(buffer, one, two, answer),
-        };
-        Called {
-            session: self,
-            count: told,
+// o: a carry-over of the list.
+fn carry(book: Book, session: Session, results: &mut [u8], answer: &mut [u64]) -> Called {
+    let list = session.list;
+    let carried = carry_first(book, list, session.listed, results);
+    let given = carried.answer;
+    let count = tell(answer, &[given.number() as u64]);
+    let next = carried.book;
+    Called {
+        book: next,
+        session: session.emptied(),
+        count: tell_bytes(answer, count, results),
+    }
+}
+
+// A load's refusal and record.
+fn load_numbers(given: LoadAnswer) -> [u64; 2] {
+    match given {
+        LoadAnswer::Accepted => [0, 0],
+        LoadAnswer::Refused { refusal, record } => [refusal.number() as u64, record as u64],
+    }
+}
+
+// l: a load of the first bytes of the buffer.
+fn load_from(session: Session, size: u64, buffer: &[u8], answer: &mut [u64]) -> Called {
+    let n = first(buffer, size as usize);
+    let loaded = load(&buffer[..n]);
+    let given = loaded.answer;
+    let count = tell(answer, &load_numbers(given));
+    let next = loaded.book;
+    Called {
+        book: next,
+        session,
+        count,
+    }
+}
+
+// The calls that change the buffer or nothing.
+fn read_call(
+    book: Book,
+    letter: u8,
+    numbers: &[u64],
+    count: usize,
+    buffer: &mut [u8],
+    answer: &mut [u64],
+) -> usize {
+    let one = at(numbers, 0);
+    let two = at(numbers, 1);
+    let account = (one % 65536) as u16;
+    let node = (two % 256) as u8;
+    let serial = (at(numbers, 2) % 4294967296) as u32;
+    match letter {
+        b's' => state(book, account, two, answer),
+        b'q' => query(book, account, node, serial, answer),
+        b'w' => save_into(book, one, buffer, answer),
+        b'x' => set(buffer, numbers, count, answer),
+        _ => show(buffer, one, two, answer),
+    }
+}
+
+// An answer of one number.
+fn told(book: Book, session: Session, number: u64, answer: &mut [u64]) -> Called {
+    Called {
+        book,
+        session,
+        count: tell(answer, &[number]),
+    }
+}
+
+// Makes the call of a line that is understood.
+pub fn call(
+    book: Book,
+    session: Session,
+    letter: u8,
+    numbers: &[u64],
+    count: usize,
+    buffer: &mut [u8],
+    answer: &mut [u64],
+) -> Called {
+    let one = at(numbers, 0);
+    match letter {
+        b'p' => post(book, session, entry(numbers), answer),
+        b'o' => {
+            let mut results = [255u8; PLACES];
+            let n = first(&results, one as usize);
+            carry(book, session, &mut results[..n], answer)
         }
+        b'l' => load_from(session, one, buffer, answer),
+        b'b' => told(book, session.turned(one), one, answer),
+        b'e' => {
+            let next = session.extended(entry(numbers));
+            told(book, next, next.listed as u64, answer)
+        }
+        _ => Called {
+            book,
+            session,
+            count: read_call(book, letter, numbers, count, buffer, answer),
+        },
     }
 }

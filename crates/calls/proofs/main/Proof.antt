@@ -1,20 +1,23 @@
 use borrow.Author.Needs.{needs}
-use mathlib.Core.Path.{_≡_}
 use lib.ListN.{length}
+use mathlib.Core.Path.{_≡_}
 use Rattle.calls.proofs.main.Statement.{statement}
 use Rattle.calls.proofs.main.Tie as tie
 
 abbrev Inv-loop : tie.InvT-loop
-Inv-loop piece₀ line₀ buffer₀ taken₀ turns₀ piece line buffer taken turns = (65536 ≡ length piece) × (4096 ≡ length line) × (24648 ≡ length buffer)
+Inv-loop piece₀ line₀ buffer₀ taken₀ turns₀ t9 piece line buffer taken turns = (65536 ≡ length piece) × (4096 ≡ length line) × (24648 ≡ length buffer)
 
 abbrev μ-loop : tie.MeasureT-loop
-μ-loop piece₀ line₀ buffer₀ taken₀ turns₀ piece line buffer taken turns = turns
+μ-loop piece₀ line₀ buffer₀ taken₀ turns₀ t9 piece line buffer taken turns = turns
 
 large-buffer-requires : tie.Need-large-buffer-requires Inv-loop μ-loop
 large-buffer-requires c κs = search needs
 
 fresh-requires : tie.Need-fresh-requires Inv-loop μ-loop
 fresh-requires c κs = search needs
+
+fresh-requires-2 : tie.Need-fresh-requires-2 Inv-loop μ-loop
+fresh-requires-2 c κs = search needs
 
 loop-holds : tie.Need-loop-holds Inv-loop μ-loop
 loop-holds c = search needs
@@ -61,14 +64,17 @@ loop-less-2 c = search needs
 loop-again-2 : tie.Need-loop-again-2 Inv-loop μ-loop
 loop-again-2 c = search needs
 
-slice-aggregate-answer : tie.Need-slice-aggregate-answer Inv-loop μ-loop
-slice-aggregate-answer c = search needs
+slice-aggregate-take-4 : tie.Need-slice-aggregate-take-4 Inv-loop μ-loop
+slice-aggregate-take-4 c = search needs
 
-slice-aggregate-answer-2 : tie.Need-slice-aggregate-answer-2 Inv-loop μ-loop
-slice-aggregate-answer-2 c = search needs
+slice-aggregate-take-5 : tie.Need-slice-aggregate-take-5 Inv-loop μ-loop
+slice-aggregate-take-5 c = search needs
 
-answer-requires : tie.Need-answer-requires Inv-loop μ-loop
-answer-requires c κs = search needs
+slice-aggregate-take-6 : tie.Need-slice-aggregate-take-6 Inv-loop μ-loop
+slice-aggregate-take-6 c = search needs
+
+take-requires-2 : tie.Need-take-requires-2 Inv-loop μ-loop
+take-requires-2 c κs = search needs
 
 returns : tie.Need-returns Inv-loop μ-loop
 returns c = search needs
@@ -81,6 +87,7 @@ main-spec =
     μ-loop
     large-buffer-requires
     fresh-requires
+    fresh-requires-2
     loop-holds
     slice-aggregate-read
     read-requires
@@ -96,7 +103,8 @@ main-spec =
     loop-again
     loop-less-2
     loop-again-2
-    slice-aggregate-answer
-    slice-aggregate-answer-2
-    answer-requires
+    slice-aggregate-take-4
+    slice-aggregate-take-5
+    slice-aggregate-take-6
+    take-requires-2
     returns)
