@@ -1,10 +1,10 @@
 // Calls as lines of text on standard input, answers as lines on standard output.
 use book::Book;
 use console::BUFFER;
-use console::LONGEST;
 use console::Session;
 use console::answer;
-use console::put;
+use text::LONGEST;
+use text::put;
 
 // What lasts from piece to piece; of the line so far the length, at most one byte more than the longest.
 struct Taken {

@@ -1,22 +1,17 @@
-// Calls as lines of text: a line is read, its call made, and the answer written as a line. A line that is not understood answers `?` and
-// its number.
-mod reading;
+// Calls as lines of text: a line is read, its call made, and the answer written. A line that is not understood answers `?` and its number.
 mod session;
 mod shapes;
-mod writing;
 
 use book::Book;
-pub use reading::LONGEST;
-use reading::Line;
-use reading::NUMBERS;
 pub use session::Session;
 use session::call;
 pub use shapes::BUFFER;
 use shapes::SHOWN;
 use shapes::understood;
-pub use writing::first;
-pub use writing::put;
-use writing::write;
+use text::Line;
+use text::NUMBERS;
+use text::first;
+use text::write;
 
 // The book that the call went to and the session, after a line.
 pub struct Answered {

@@ -1,7 +1,5 @@
 // The calls: each takes the book that it goes to, the session and its line's numbers, and gives the next ones and the numbers of its answer.
 use crate::shapes::PLACES;
-use crate::shapes::at;
-use crate::writing::first;
 use book::Book;
 use carry::AT_ONCE;
 use carry::carry_first;
@@ -12,6 +10,8 @@ use image::load;
 use image::save;
 use queries::contribution_query;
 use queries::statement;
+use text::at;
+use text::first;
 ghost use Prim.Native.Nat.{_<_};
 
 // What lasts from line to line, beside the books and the lent buffer.

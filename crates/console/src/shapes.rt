@@ -1,7 +1,9 @@
 // Which lines are understood: how many numbers a letter has, and how wide they are.
-use crate::reading::Line;
-use crate::reading::read;
 use carry::AT_ONCE;
+use text::Line;
+use text::at;
+use text::at_or;
+use text::read;
 
 const U8: u64 = 255;
 
@@ -17,16 +19,6 @@ pub const PLACES: usize = 128;
 
 // The most bytes that are shown at once.
 pub const SHOWN: usize = 1024;
-
-// The number at a place, and another where there is none.
-fn at_or(numbers: &[u64], i: usize, other: u64) -> u64 {
-    if i < numbers.len() { numbers[i] } else { other }
-}
-
-// The number at a place, and 0 where there is none.
-pub fn at(numbers: &[u64], i: usize) -> u64 {
-    at_or(numbers, i, 0)
-}
 
 // Whether none of the first so many numbers is above its limit. Those that have none are bytes.
 fn within(numbers: &[u64], count: usize, limits: &[u64]) -> bool {

@@ -1,12 +1,12 @@
 // Two nodes that keep their books as images, through the exported calls. Each call prints all that it gives.
 use codec::encode;
-use console::first;
 use contribution_book::contribution_book_carry_over;
 use contribution_book::contribution_book_check;
 use contribution_book::contribution_book_contribution;
 use contribution_book::contribution_book_post;
 use contribution_book::contribution_book_statement;
 use entries::Raw;
+use text::first;
 
 const ROOM: usize = 288;
 

@@ -6,7 +6,7 @@ use native.Mathlib.Numerals.{add-one}
 use borrow.Author.Tests.{lt-ltb, le-ltb}
 use lib.ListN.{length, getD, drop, drop-of-length-le}
 use lib.Seq.{drop-cons}
-use Rattle.console.specs.Numbers.{digitOf, parsed, numberIn}
+use Rattle.text.specs.Numbers.{digitOf, parsed, numberIn}
 
 module _ (line : List ℕ) (from value at : ℕ) where
   pub number-ends : length line ≤ at → numberIn from (drop at line) value at ≡ parsed value at

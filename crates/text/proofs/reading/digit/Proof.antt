@@ -1,9 +1,9 @@
 use native.Mathlib.Omega.{arith}
 use borrow.Author.Tests.{lt-ltb, le-ltb}
-use Rattle.console.specs.Numbers.{digitOf}
+use Rattle.text.specs.Numbers.{digitOf}
 use borrow.Author.Needs.{needs}
-use Rattle.console.proofs.reading.digit.Statement.{statement}
-use Rattle.console.proofs.reading.digit.Tie as tie
+use Rattle.text.proofs.reading.digit.Statement.{statement}
+use Rattle.text.proofs.reading.digit.Tie as tie
 
 returns : tie.Need-returns
 unfolding digitOf

@@ -1,5 +1,5 @@
 // A line of an answer: its letter and decimal numbers, with one space between.
-use crate::shapes::at as nth;
+use crate::lists::at as nth;
 ghost use Rattle.io.specs.Counts.{Counts};
 
 // The longest answer: a letter, 1,024 numbers with a space before each, and the end of the line.

@@ -2,7 +2,7 @@
 ghost use Prim.Native.Nat.{_≤_};
 ghost use mathlib.Core.Path.{_≡_};
 ghost use lib.ListN.{drop};
-ghost use Rattle.console.specs.Numbers.{digitOf, numberIn};
+ghost use Rattle.text.specs.Numbers.{digitOf, numberIn};
 
 // The longest line that is read. A comment may be longer.
 pub const LONGEST: usize = 4095;

@@ -2,8 +2,8 @@ use mathlib.Core.Path.{sym}
 use native.Mathlib.Omega.{arith}
 use denote.Ref.{now}
 use lib.Seq.{length-take-le}
-use Rattle.console.proofs.writing.first.Statement.{statement}
-use Rattle.console.proofs.writing.first.Tie as tie
+use Rattle.text.proofs.writing.first.Statement.{statement}
+use Rattle.text.proofs.writing.first.Tie as tie
 
 returns : tie.Need-returns
 returns c = (omega arith, sym (length-take-le _ (now (c .before .args .bytes)) (omega arith)))

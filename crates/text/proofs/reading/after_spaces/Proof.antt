@@ -1,8 +1,8 @@
 use borrow.Author.Needs.{needs}
 use Prim.Native.Nat.{_≤_, _-_}
 use lib.ListN.{length}
-use Rattle.console.proofs.reading.after_spaces.Statement.{statement}
-use Rattle.console.proofs.reading.after_spaces.Tie as tie
+use Rattle.text.proofs.reading.after_spaces.Statement.{statement}
+use Rattle.text.proofs.reading.after_spaces.Tie as tie
 
 abbrev Inv-loop : tie.InvT-loop
 Inv-loop line from at₀ at = from ≤ at

@@ -3,7 +3,7 @@ use Prim.Native.Nat.{ℕ, _+_, _*_, _-_}
 use mathlib.Core.Bool.{cond}
 use mathlib.Core.List.{List, [], _∷_}
 use lib.Dec.{ltb}
-use Rattle.console.specs.declared.reading.Parsed.{Parsed}
+use Rattle.text.specs.declared.reading.Parsed.{Parsed}
 
 -- a digit's value, and 10 for any other byte
 unfoldable pub digitOf : ℕ → ℕ

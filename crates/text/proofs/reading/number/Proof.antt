@@ -4,10 +4,10 @@ use native.Mathlib.Omega.{arith}
 use borrow.Author.Needs.{needs}
 use denote.Ref.{now}
 use lib.ListN.{length, drop}
-use Rattle.console.specs.Numbers.{numberIn}
-use Rattle.console.proofs.Numbers.{number-ends, number-stops, number-beyond, number-goes-on}
-use Rattle.console.proofs.reading.number.Statement.{statement}
-use Rattle.console.proofs.reading.number.Tie as tie
+use Rattle.text.specs.Numbers.{numberIn}
+use Rattle.text.proofs.Numbers.{number-ends, number-stops, number-beyond, number-goes-on}
+use Rattle.text.proofs.reading.number.Statement.{statement}
+use Rattle.text.proofs.reading.number.Tie as tie
 
 abbrev Inv-loop : tie.InvT-loop
 Inv-loop line from at₀ value₀ at value = (from ≤ at) × (numberIn from (drop at line) value at ≡ numberIn from (drop from line) 0 from)

@@ -2,8 +2,8 @@ use borrow.Author.Needs.{needs}
 use Prim.Native.Nat.{_-_}
 use lib.ListN.{length}
 use mathlib.Core.Path.{_≡_}
-use Rattle.console.proofs.writing.put_all.Statement.{statement}
-use Rattle.console.proofs.writing.put_all.Tie as tie
+use Rattle.text.proofs.writing.put_all.Statement.{statement}
+use Rattle.text.proofs.writing.put_all.Tie as tie
 
 abbrev Inv-loop : tie.InvT-loop
 Inv-loop text₀ from bytes at₀ i₀ text at i = length text ≡ length text₀

@@ -3,8 +3,8 @@ use Prim.Native.Nat.{_≤_, _-_}
 use lib.ListN.{length, length-set}
 use native.Mathlib.Omega.{arith}
 use mathlib.Core.Path.{_≡_}
-use Rattle.console.proofs.reading.read.Statement.{statement}
-use Rattle.console.proofs.reading.read.Tie as tie
+use Rattle.text.proofs.reading.read.Statement.{statement}
+use Rattle.text.proofs.reading.read.Tie as tie
 
 abbrev Inv-loop : tie.InvT-loop
 Inv-loop line numbers₀ letter at₀ count₀ numbers at count = (count ≤ length numbers) × (length numbers ≡ length numbers₀)
