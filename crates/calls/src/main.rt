@@ -1,8 +1,8 @@
 // Calls as lines of text on standard input, answers as lines on standard output.
 use book::Book;
-use console::BUFFER;
 use console::Session;
 use console::answer;
+use text::BUFFER;
 use text::LONGEST;
 use text::put;
 

@@ -1,16 +1,14 @@
 // Calls as lines of text: a line is read, its call made, and the answer written. A line that is not understood answers `?` and its number.
 mod session;
-mod shapes;
 
 use book::Book;
 pub use session::Session;
 use session::call;
-pub use shapes::BUFFER;
-use shapes::SHOWN;
-use shapes::understood;
 use text::Line;
 use text::NUMBERS;
+use text::SHOWN;
 use text::first;
+use text::understood;
 use text::write;
 
 // The book that the call went to and the session, after a line.
@@ -30,7 +28,7 @@ pub fn answer(
     let session = start.next_line();
     let n = first(bytes, length);
     let mut numbers = [0u64; NUMBERS];
-    match understood(&bytes[..n], session.listed, &mut numbers) {
+    match understood(&bytes[..n], session.full(), &mut numbers) {
         Line::Nothing => Answered { book, session },
         Line::Unclear => {
             write(b'?', &[session.lines], 1);

@@ -1,5 +1,4 @@
 // The calls: each takes the book that it goes to, the session and its line's numbers, and gives the next ones and the numbers of its answer.
-use crate::shapes::PLACES;
 use book::Book;
 use carry::AT_ONCE;
 use carry::carry_first;
@@ -10,6 +9,7 @@ use image::load;
 use image::save;
 use queries::contribution_query;
 use queries::statement;
+use text::PLACES;
 use text::at;
 use text::first;
 ghost use Prim.Native.Nat.{_<_};
@@ -183,6 +183,11 @@ impl Session {
         ensures { λ r. ⌜ r < 2 ⌝ }
     {
         if self.current == 2 { 1 } else { 0 }
+    }
+
+    // Whether the list has no room for another entry.
+    pub fn full(self) -> bool {
+        AT_ONCE <= self.listed
     }
 
     // With one line more.

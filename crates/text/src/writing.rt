@@ -24,23 +24,12 @@ pub fn put(text: &mut [u8], at: usize, byte: u8) -> usize {
     at
 }
 
-// Puts bytes into a text from a place on, and gives the place after them.
-fn put_all(text: &mut [u8], from: usize, bytes: &[u8]) -> usize {
-    let mut at = from;
-    let mut i: usize = 0;
-    while i < bytes.len() {
-        at = put(text, at, bytes[i]);
-        i += 1;
-    }
-    at
-}
-
 // Puts a space and a number.
 fn number(text: &mut [u8], at: usize, n: u64) -> usize {
     let mut shown = [0u8; 20];
     let k = io::decimal(n, &mut shown);
     let from = put(text, at, b' ');
-    put_all(text, from, &shown[..k])
+    lines::put(text, from, &shown[..k])
 }
 
 // Puts a letter and the first so many numbers, and the end of the line, and gives the length.

@@ -1,7 +1,7 @@
 use borrow.Author.Needs.{needs}
 use Prim.Native.Nat.{_-_}
-use Rattle.console.proofs.shapes.within.Statement.{statement}
-use Rattle.console.proofs.shapes.within.Tie as tie
+use Rattle.text.proofs.shapes.within.Statement.{statement}
+use Rattle.text.proofs.shapes.within.Tie as tie
 
 abbrev Inv-loop : tie.InvT-loop
 Inv-loop numbers count limits i₀ i = Unit {0}

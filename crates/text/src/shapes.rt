@@ -1,9 +1,8 @@
 // Which lines are understood: how many numbers a letter has, and how wide they are.
-use carry::AT_ONCE;
-use text::Line;
-use text::at;
-use text::at_or;
-use text::read;
+use crate::lists::at;
+use crate::lists::at_or;
+use crate::reading::Line;
+use crate::reading::read;
 
 const U8: u64 = 255;
 
@@ -66,12 +65,12 @@ fn is_show(numbers: &[u64], count: usize) -> bool {
         && in_buffer(at(numbers, 0), at(numbers, 1))
 }
 
-// Whether a letter has such numbers, with so many entries on the list.
-fn fits(letter: u8, numbers: &[u64], count: usize, listed: usize) -> bool {
+// Whether a letter has such numbers, where the list of entries is full or not.
+fn fits(letter: u8, numbers: &[u64], count: usize, full: bool) -> bool {
     match letter {
         b'b' => exactly(numbers, count, &[2]) && 0 < at(numbers, 0),
         b'p' => is_entry(numbers, count),
-        b'e' => listed < AT_ONCE && is_entry(numbers, count),
+        b'e' => !full && is_entry(numbers, count),
         b'o' => exactly(numbers, count, &[PLACES as u64]),
         b's' => exactly(numbers, count, &[U16, u64::MAX]),
         b'q' => exactly(numbers, count, &[U16, U8, U32]),
@@ -83,10 +82,10 @@ fn fits(letter: u8, numbers: &[u64], count: usize, listed: usize) -> bool {
 }
 
 // Reads a line and sees whether it is understood.
-pub fn understood(line: &[u8], listed: usize, numbers: &mut [u64]) -> Line {
+pub fn understood(line: &[u8], full: bool, numbers: &mut [u64]) -> Line {
     let said = read(line, numbers);
     if let Line::Call { letter, count } = said {
-        if !fits(letter, numbers, count, listed) {
+        if !fits(letter, numbers, count, full) {
             return Line::Unclear;
         }
     }
