@@ -60,7 +60,7 @@ answer-same {h} v t c = go c
     go (statement account allowance) = rw (image-loads v t, statement-same w account allowance) refl
     go (contribution account node serial) = rw (image-loads v t, contribution-same w account node serial) refl
 
--- ---- the image that it imageAfter
+-- ---- the image that it leaves
 
 -- where no refusal stands first, there is none
 abbrev Zeros : List ℕ → Type 0
@@ -106,7 +106,7 @@ image-next h (carryOver run results output) =
 image-next h (statement account allowance) = refl
 image-next h (contribution account node serial) = refl
 
--- ---- the history that it imageAfter
+-- ---- the history that it leaves
 
 abbrev Sound : History → Type 0
 Sound h = Valid h × AllTyped h
