@@ -13,7 +13,7 @@ use Rattle.entries.specs.declared.raw.Raw.{Raw}
 use Rattle.entries.specs.declared.kinds.Kind.{Kind}
 use Rattle.entries.specs.declared.kinds.Kind.the-variants as kind
 use Rattle.entries.proofs.Ranges.{inside, Ranged, ranged}
-use Rattle.history.specs.History.{accounts, entries, period, History, lastSerial, naming, suits, Sought, missing, found, find, named, Fate, fate, entryIn, fateIn, Balance, balance, Row, firstOf, refusals, judge}
+use Rattle.history.specs.History.{accounts, entries, periodEnd, History, lastSerial, naming, suits, Sought, missing, found, find, named, Fate, fate, entryIn, fateIn, Balance, balance, Row, firstOf, refusals, judge}
 use Rattle.history.specs.Laws.{Valid, empty, joins}
 
 pub or-left : (a b : Bool) → (a || b) ≡ false → a ≡ false
@@ -99,7 +99,7 @@ pub record Passed (h : History) (r : Raw) (k : Kind) (e : Raw) (f : Fate) (b : B
   pub suited : (naming k && not (suits k (kindOf (e .kind)))) ≡ false
   pub deposit : (sameOf k kind.Deposit && ltb 0 (b .deposit) || sameOf k kind.DepositReturn && eqb (b .deposit) 0) ≡ false
   pub unclosed : (sameOf (kindOf (e .kind)) kind.Contribution && f .closed) ≡ false
-  pub period-runs : (sameOf k kind.AddedCustomer && leb (e .day + period) (r .day)) ≡ false
+  pub period-runs : (sameOf k kind.AddedCustomer && leb (periodEnd e) (r .day)) ≡ false
   pub uncorrected : ((sameOf (kindOf (e .kind)) kind.Bill || sameOf (kindOf (e .kind)) kind.Payment) && f .corrected) ≡ false
 
 pass : (h : History) (r : Raw) (k : Kind) (e : Raw) (f : Fate) (b : Balance) → firstOf (refusals h r k e f b) ≡ 0 → Passed h r k e f b
@@ -145,7 +145,7 @@ module _ (h : History) (r : Raw) where
   pub data Sort : Type 0 where
     as-contribution : kindOf (r .kind) ≡ kind.Contribution → Sort
     as-added : kindOf (r .kind) ≡ kind.AddedCustomer → (i : ℕ) (e : Raw) → find h r ≡ found i e →
-        kindOf (e .kind) ≡ kind.Contribution → r .day < e .day + period → Sort
+        kindOf (e .kind) ≡ kind.Contribution → r .day < periodEnd e → Sort
     as-bill : kindOf (r .kind) ≡ kind.Bill → Sort
     as-payment : kindOf (r .kind) ≡ kind.Payment → Sort
     as-deposit : kindOf (r .kind) ≡ kind.Deposit → balance h (r .account) .deposit ≡ 0 → r .a ≤ 2000 → Sort

@@ -12,7 +12,7 @@ use Rattle.entries.specs.declared.raw.Raw.{Raw}
 use Rattle.entries.specs.declared.kinds.Kind.{Kind}
 use Rattle.entries.specs.declared.kinds.Kind.the-variants as kind
 use Rattle.entries.proofs.Ranges.{both-true}
-use Rattle.history.specs.History.{period, History, lastSerial, naming, points, names, Sought, missing, found, find, Fate, posted, change, fate, Amounts, amounts, judge, ofCustomers}
+use Rattle.history.specs.History.{periodEnd, History, lastSerial, naming, points, names, Sought, missing, found, find, Fate, posted, change, fate, Amounts, amounts, judge, ofCustomers}
 use Rattle.history.specs.Laws.{Valid, empty, joins, In, newest, older, Contributed, Again, Once, Each}
 use Rattle.history.proofs.Accept.{accepts, Sort, as-contribution, as-added, as-bill, as-payment, as-deposit, as-return, as-expiry, as-correction, sorted, Role, alone, upon, role}
 
@@ -254,7 +254,7 @@ pub record Found (h : History) (c : Raw) : Type 0 where
   pub entry : Raw
   pub at : find h c ≡ found place entry
   pub contribution : kindOf (entry .kind) ≡ kind.Contribution
-  pub day : c .day < entry .day + period
+  pub day : c .day < periodEnd entry
 
 pub added-found : {h : History} (c : Raw) → Sort h c → kindOf (c .kind) ≡ kind.AddedCustomer → Found h c
 added-found c (as-contribution q) k = let z : _≡_ {A = ℕ} 0 1 = cc in absurd (omega arith)
@@ -267,7 +267,7 @@ added-found c (as-expiry q i x f l o) k = let z : _≡_ {A = ℕ} 0 1 = cc in ab
 added-found c (as-correction q i x f b l u) k = let z : _≡_ {A = ℕ} 0 1 = cc in absurd (omega arith)
 
 abbrev pub Refunded : History → Raw → Type 0
-Refunded h c = (w : Contributed h c) × (c .day < w .entry .day + period)
+Refunded h c = (w : Contributed h c) × (c .day < periodEnd (w .entry))
 
 refunded-new : {h : History} → Valid h → (r : Raw) → judge h r ≡ 0 → kindOf (r .kind) ≡ kind.AddedCustomer → Refunded (r ∷ h) r
 refunded-new {h} v r j k =
@@ -283,11 +283,11 @@ refunded (joins v j) c (older t) k =
     let x = w .0 in
     (record { entry = x .entry; member = older (x .member); contribution = x .contribution; aimed = x .aimed }, w .1)
 
-pub in-period : {h : History} → Valid h → (c e : Raw) → In c h → In e h → kindOf (c .kind) ≡ kind.AddedCustomer → points c e ≡ true → c .day < e .day + period
+pub in-period : {h : History} → Valid h → (c e : Raw) → In c h → In e h → kindOf (c .kind) ≡ kind.AddedCustomer → points c e ≡ true → c .day < periodEnd e
 in-period v c e m n k p =
     let w = refunded v c m k in
     let x = w .0 in
-    subst (λ (y : Raw). c .day < y .day + period) (pointed-once v c (x .entry) e (x .member) n (x .aimed) p) (w .1)
+    subst (λ (y : Raw). c .day < periodEnd y) (pointed-once v c (x .entry) e (x .member) n (x .aimed) p) (w .1)
 
 -- LAW: no two corrections on one account name the same entry
 -- an entry that a correction of the history names is corrected

@@ -1,12 +1,12 @@
 -- The book's table of refusals and the history's stop an entry by the same number.
 use mathlib.Core.Path.{_≡_, refl, sym, ap, _∙_}
-use Prim.Native.Nat.{ℕ, _+_, _-_}
+use Prim.Native.Nat.{ℕ, _+_}
 use native.Mathlib.Omega.{arith}
 use mathlib.Core.Bool.{Bool, true, false, cond, not, _&&_, _||_, true≢false}
 use mathlib.Core.List.{List, [], _∷_, _++_}
 use lib.ListN.{length, drop}
 use lib.Dec.{eqb, leb, ltb}
-use borrow.Author.Tests.{eqb-true, ltb-true, ltb-false, leb-true, leb-false, le-leb, lt-leb, lt-ltb, le-ltb, not-false}
+use borrow.Author.Tests.{eqb-true, le-ltb, not-false}
 use Rattle.entries.specs.Kinds.{kindOf, namesOf, misnamesOf, sameOf}
 use Rattle.entries.specs.Ranges.{between}
 use Rattle.entries.specs.Refusals.{refusalNumber, ruleOf}
@@ -22,7 +22,7 @@ use Rattle.entries.specs.declared.refusals.Refusal.the-variants as no
 use Rattle.entries.specs.declared.refusals.Check.{Check}
 use Rattle.entries.specs.declared.refusals.Check.the-variants as check
 use Rattle.entries.proofs.Rows.{refused-stays}
-use Rattle.rules.specs.Checks.{ownRows, namingRows, checkOwnOf, checkNamingOf, refundPeriod}
+use Rattle.rules.specs.Checks.{ownRows, namingRows, checkOwnOf, checkNamingOf}
 use Rattle.rules.specs.Changes.{ownChangeOf, namingChangeOf, decidedOf, ownOutcomeOf, namingOutcomeOf}
 use Rattle.rules.specs.declared.changes.Outcome.{Outcome}
 use Rattle.rules.specs.declared.changes.Outcome.the-variants.{Refused, Accepted}
@@ -72,20 +72,6 @@ first-same (x ∷ xs) (y ∷ ys) s =
     pick ih more false e s = rw (s .0) (more (s .1))
 
 -- TESTS THAT ARE SAID UNLIKE
-age-over : (x y : ℕ) → leb refundPeriod (x - y) ≡ leb (y + period) x
-age-over x y = go (leb refundPeriod (x - y)) refl
-  where
-    go : (t : Bool) → leb refundPeriod (x - y) ≡ t → t ≡ leb (y + period) x
-    go true e = sym (le-leb (y + period) x (omega (arith, leb-true refundPeriod (x - y) e)))
-    go false e = sym (lt-leb (y + period) x (omega (arith, leb-false refundPeriod (x - y) e)))
-
-age-below : (x y : ℕ) → ltb (x - y) refundPeriod ≡ ltb x (y + period)
-age-below x y = go (ltb (x - y) refundPeriod) refl
-  where
-    go : (t : Bool) → ltb (x - y) refundPeriod ≡ t → t ≡ ltb x (y + period)
-    go true e = sym (lt-ltb x (y + period) (omega (arith, ltb-true (x - y) refundPeriod e)))
-    go false e = sym (le-ltb x (y + period) (omega (arith, ltb-false (x - y) refundPeriod e)))
-
 misnames-same : (k l : Kind) → misnamesOf k l ≡ not (suits k l)
 unfolding misnamesOf
 misnames-same k l = go (sameOf k kind.Correction)
@@ -202,9 +188,9 @@ module _ (h : History) (r : Raw) (k : Kind) (b : Balance) where
               λ t. (
                 s .closed,
                 λ t. (
-                  ap (λ q. sameOf k kind.AddedCustomer && q) (age-over (r .day) (e .day .0) ∙ ap (λ n. leb (n + period) (r .day)) on),
+                  ap (λ q. sameOf k kind.AddedCustomer && q) (ap (λ n. leb (n + period) (r .day)) on),
                   λ t. (
-                    ap (λ q. sameOf k kind.Expiry && q) (age-below (r .day) (e .day .0) ∙ ap (λ n. ltb (r .day) (n + period)) on),
+                    ap (λ q. sameOf k kind.Expiry && q) (ap (λ n. ltb (r .day) (n + period)) on),
                     λ t. (
                       added-same k (kindOf (x .kind)) _ _ (λ l. ap (λ n. eqb (r .b) 1 && eqb n 3) (rw l at (s .phases))) suited,
                       λ t. (

@@ -26,6 +26,10 @@ entries = 1024
 abbrev pub period : ℕ
 period = 1826
 
+-- the first day on which a contribution e brings none any more
+abbrev pub periodEnd : Raw → ℕ
+periodEnd e = e .day + period
+
 -- the list, newest first: document 01's end of the list is the head here
 abbrev pub History : Type 0
 History = List Raw
@@ -224,8 +228,8 @@ refusals h r k e f b =
     (sameOf k kind.Deposit && ltb 0 (b .deposit) || sameOf k kind.DepositReturn && eqb (b .deposit) 0 ⇒ 9) ∷
     (ltb (r .day) (cond (sameOf k kind.DepositReturn) (b .deposited) (e .day)) ⇒ 10) ∷
     (sameOf l kind.Contribution && f .closed ⇒ 11) ∷
-    (sameOf k kind.AddedCustomer && leb (e .day + period) (r .day) ⇒ 12) ∷
-    (sameOf k kind.Expiry && ltb (r .day) (e .day + period) ⇒ 13) ∷
+    (sameOf k kind.AddedCustomer && leb (periodEnd e) (r .day) ⇒ 12) ∷
+    (sameOf k kind.Expiry && ltb (r .day) (periodEnd e) ⇒ 13) ∷
     (sameOf k kind.AddedCustomer && (eqb (r .b) 1 && eqb (e .b) 3) ⇒ 14) ∷
     (sameOf k kind.AddedCustomer && ltb (e .a) (r .a) ⇒ 15) ∷
     ((sameOf l kind.Bill || sameOf l kind.Payment) && f .corrected ⇒ 16) ∷ []

@@ -7,7 +7,7 @@ use lib.ListN.{length}
 use Rattle.entries.specs.Kinds.{kindOf}
 use Rattle.entries.specs.declared.raw.Raw.{Raw}
 use Rattle.entries.specs.declared.kinds.Kind.the-variants as kind
-use Rattle.history.specs.History.{History, Amounts, entries, period, points, fate, Balance, balance, amounts, judge, offers, entriesOf, Reading, total, amountOf, standingAmount, heldOf, addedUp, toArrears, refundsPaid, customers}
+use Rattle.history.specs.History.{History, Amounts, entries, periodEnd, points, fate, Balance, balance, amounts, judge, offers, entriesOf, Reading, total, amountOf, standingAmount, heldOf, addedUp, toArrears, refundsPaid, customers}
 
 -- the histories that offers give: no refusal stopped any entry, read against those before it
 pub data Valid : History → Type 0 where
@@ -106,7 +106,7 @@ pub record Lawful (h : History) : Type 0 where
   pub counted : (e : Raw) → In e h → kindOf (e .kind) ≡ kind.Contribution → fate h e .added ≡ customers h e
   -- refunds are the added customers, with their days: each has its contribution, and none is 1,826 days or more after it
   pub contributed : (c : Raw) → In c h → kindOf (c .kind) ≡ kind.AddedCustomer → Contributed h c
-  pub in-period : (c e : Raw) → In c h → In e h → kindOf (c .kind) ≡ kind.AddedCustomer → points c e ≡ true → c .day < e .day + period
+  pub in-period : (c e : Raw) → In c h → In e h → kindOf (c .kind) ≡ kind.AddedCustomer → points c e ≡ true → c .day < periodEnd e
   -- no two corrections on one account name the same entry
   pub once : Each Once h
 

@@ -1,9 +1,10 @@
 -- The refusals that the account and the named entry decide, in checking order: 8 to 16.
-use Prim.Native.Nat.{ℕ, _-_}
+use Prim.Native.Nat.{ℕ, _+_}
 use mathlib.Core.Bool.{Bool, _&&_, _||_}
 use mathlib.Core.List.{List, [], _∷_}
 use lib.Dec.{eqb, leb, ltb}
 use Rattle.measures.specs.declared.Cents.{Cents}
+use Rattle.measures.specs.declared.Day.{Day}
 use Rattle.entries.specs.Kinds.{sameOf, misnamesOf}
 use Rattle.entries.specs.Refusals.{Row, _⇒_, firstOf}
 use Rattle.entries.specs.Entries.{namedOf}
@@ -20,6 +21,10 @@ use Rattle.rules.specs.declared.accounts.Account.{Account}
 abbrev pub refundPeriod : ℕ
 refundPeriod = 1826
 
+-- the first day on which a contribution of a day brings none any more
+abbrev pub periodEnd : Day → ℕ
+periodEnd contributed = contributed .0 + refundPeriod
+
 -- a deposit comes while one is held, or a return while none is; a deposit is held while its amount is above 0
 abbrev pub depositClash : Kind → Cents → Bool
 depositClash k held = sameOf k kind.Deposit && ltb 0 (held .0) || sameOf k kind.DepositReturn && eqb (held .0) 0
@@ -35,12 +40,11 @@ ownRows r k acc =
 abbrev pub namingRows : Raw → Kind → Entry → List Row
 namingRows r k e =
     let n = namedOf (e .«data») in
-    let age = r .day - e .day .0 in
     (misnamesOf k (n .kind) ⇒ no.NotOnChain) ∷
     (ltb (r .day) (e .day .0) ⇒ no.DayBefore) ∷
     (n .closed ⇒ no.Closed) ∷
-    (sameOf k kind.AddedCustomer && leb refundPeriod age ⇒ no.PeriodOver) ∷
-    (sameOf k kind.Expiry && ltb age refundPeriod ⇒ no.PeriodRunning) ∷
+    (sameOf k kind.AddedCustomer && leb (periodEnd (e .day)) (r .day) ⇒ no.PeriodOver) ∷
+    (sameOf k kind.Expiry && ltb (r .day) (periodEnd (e .day)) ⇒ no.PeriodRunning) ∷
     (sameOf k kind.AddedCustomer && (eqb (r .b) 1 && eqb (n .phases) 3) ⇒ no.OnePhase) ∷
     (sameOf k kind.AddedCustomer && ltb (n .built .0) (r .a) ⇒ no.MetresExceeded) ∷
     (n .corrected ⇒ no.CorrectedBefore) ∷

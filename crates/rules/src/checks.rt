@@ -10,10 +10,17 @@ use entries::either;
 use measures::Cents;
 use measures::Day;
 ghost use mathlib.Core.Path.{_≡_};
-ghost use Rattle.rules.specs.Checks.{depositClash, checkOwnOf, checkNamingOf};
+ghost use Rattle.rules.specs.Checks.{periodEnd, depositClash, checkOwnOf, checkNamingOf};
 
 // The days from a contribution on in which added customers bring refunds; an expiry comes after them.
 pub const REFUND_PERIOD: u16 = 1826;
+
+// The first day on which a contribution of a day brings no refund any more.
+fn period_end(contributed: Day) -> u32
+    ensures { λ r. ⌜ r ≡ periodEnd contributed ⌝ }
+{
+    contributed.0 as u32 + REFUND_PERIOD as u32
+}
 
 // A deposit comes while one is held, or a return while none is.
 fn deposit_clash(kind: Kind, held: Cents) -> bool
@@ -45,17 +52,17 @@ pub fn check_naming(raw: Raw, kind: Kind, entry: Entry) -> Check
     let data = entry.data;
     let named = data.named();
     let named_kind = named.kind;
-    let day = Day(raw.day);
-    let age = day.since(entry.day);
+    let day = raw.day as u32;
+    let end = period_end(entry.day);
     let added = kind.is(Kind::AddedCustomer);
     let one_to_three = both(raw.b == 1, named.phases == 3);
     Check::Passed
         .rule(kind.misnames(named_kind), Refusal::NotOnChain)
         .rule(raw.day < entry.day.0, Refusal::DayBefore)
         .rule(named.closed, Refusal::Closed)
-        .rule(both(added, REFUND_PERIOD <= age), Refusal::PeriodOver)
+        .rule(both(added, end <= day), Refusal::PeriodOver)
         .rule(
-            both(kind.is(Kind::Expiry), age < REFUND_PERIOD),
+            both(kind.is(Kind::Expiry), day < end),
             Refusal::PeriodRunning,
         )
         .rule(both(added, one_to_three), Refusal::OnePhase)

@@ -6,8 +6,11 @@ use Rattle.rules.proofs.checks.check_naming.Tie as tie
 named-requires : tie.Need-named-requires
 named-requires c κs = search needs
 
-since-requires : tie.Need-since-requires
-since-requires c κs = search needs
+cast-day : tie.Need-cast-day
+cast-day c = search needs
+
+period-end-requires : tie.Need-period-end-requires
+period-end-requires c κs = search needs
 
 is-requires : tie.Need-is-requires
 is-requires c κs = search needs
@@ -59,14 +62,15 @@ rule-requires-8 c κs = search needs
 
 returns : tie.Need-returns
 unfolding checkNamingOf
-returns c = simp (c .rule8 .ensures, c .before .rule7 .ensures, c .before .before .both5 .ensures, c .before .before .before .before .before .rule6 .ensures, c .before .before .before .before .before .before .both4 .ensures, c .before .before .before .before .before .before .before .rule5 .ensures, c .before .before .before .before .before .before .before .before .both3 .ensures, c .before .before .before .before .before .before .before .before .before .is2 .ensures, c .before .before .before .before .before .before .before .before .before .before .rule4 .ensures, c .before .before .before .before .before .before .before .before .before .before .before .both2 .ensures, c .before .before .before .before .before .before .before .before .before .before .before .before .rule3 .ensures, c .before .before .before .before .before .before .before .before .before .before .before .before .before .rule2 .ensures, c .before .before .before .before .before .before .before .before .before .before .before .before .before .before .before .before .rule .ensures, c .before .before .before .before .before .before .before .before .before .before .before .before .before .before .before .before .before .misnames .ensures, c .before .before .before .before .before .before .before .before .before .before .before .before .before .before .before .before .before .before .both .ensures, c .before .before .before .before .before .before .before .before .before .before .before .before .before .before .before .before .before .before .before .before .before .is .ensures, c .before .before .before .before .before .before .before .before .before .before .before .before .before .before .before .before .before .before .before .before .before .before .since .ensures, c .before .before .before .before .before .before .before .before .before .before .before .before .before .before .before .before .before .before .before .before .before .before .before .named .ensures)
+returns c = simp (c .rule8 .ensures, c .before .rule7 .ensures, c .before .before .both5 .ensures, c .before .before .before .before .before .rule6 .ensures, c .before .before .before .before .before .before .both4 .ensures, c .before .before .before .before .before .before .before .rule5 .ensures, c .before .before .before .before .before .before .before .before .both3 .ensures, c .before .before .before .before .before .before .before .before .before .is2 .ensures, c .before .before .before .before .before .before .before .before .before .before .rule4 .ensures, c .before .before .before .before .before .before .before .before .before .before .before .both2 .ensures, c .before .before .before .before .before .before .before .before .before .before .before .before .rule3 .ensures, c .before .before .before .before .before .before .before .before .before .before .before .before .before .rule2 .ensures, c .before .before .before .before .before .before .before .before .before .before .before .before .before .before .before .before .rule .ensures, c .before .before .before .before .before .before .before .before .before .before .before .before .before .before .before .before .before .misnames .ensures, c .before .before .before .before .before .before .before .before .before .before .before .before .before .before .before .before .before .before .both .ensures, c .before .before .before .before .before .before .before .before .before .before .before .before .before .before .before .before .before .before .before .before .before .is .ensures, c .before .before .before .before .before .before .before .before .before .before .before .before .before .before .before .before .before .before .before .before .before .before .period-end .ensures, c .before .before .before .before .before .before .before .before .before .before .before .before .before .before .before .before .before .before .before .before .before .before .before .before .named .ensures)
 
 pub check-naming-spec : {M : Type 1} → statement M
 check-naming-spec =
     tie.close
     (tie.spec
     named-requires
-    since-requires
+    cast-day
+    period-end-requires
     is-requires
     both-requires
     misnames-requires
