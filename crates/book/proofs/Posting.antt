@@ -16,7 +16,7 @@ use Rattle.entries.specs.declared.data.Entry.{Entry}
 use Rattle.entries.specs.declared.refusals.Check.{Check}
 use Rattle.entries.specs.declared.refusals.Check.the-variants as check
 use Rattle.entries.specs.declared.refusals.Refusal.{Refusal}
-use Rattle.entries.proofs.Rows.{silent}
+use Rattle.entries.proofs.Rows.{unbroken}
 use Rattle.rules.specs.Accounts.{noAccount, numberedOf}
 use Rattle.rules.specs.Answers.{replyOf}
 use Rattle.rules.specs.Changes.{answerOf, addedCustomerOf, expiryOf, correctionOf, contributionOf, billOf, paymentOf, depositOf, depositReturnOf, ownChangeOf, namingChangeOf, decidedOf, ownOutcomeOf, namingOutcomeOf}
@@ -46,8 +46,7 @@ pub room : (b : Book) (r : Raw) (x : Change) → decisionOf b r ≡ Accepted x �
 unfolding decisionOf outcomeOf checkEntryOf
 room b r x e =
     let passed = decided-passed _ _ x e .0 in
-    let rows = silent _ (entryRows r (kindOf (r .kind)) (b .count) (lastOf (b .last) (r .node))) passed .1 in
-    leb-false entriesMost (b .count) (rows .1 .1 .1 .1 .1 .1 .0)
+    leb-false entriesMost (b .count) (unbroken 7 _ (entryRows r (kindOf (r .kind)) (b .count) (lastOf (b .last) (r .node))) passed)
 
 -- what an accepted entry names is what the search found
 same-names : (t : Bool) (x y : Change) (f : Found) → x .names ≡ f → y .names ≡ f → cond t x y .names ≡ f

@@ -49,7 +49,7 @@ begun r (Accepted c) = record { account = c .account; first = entryOf r 0 (c .«
 abbrev begins : ℕ → ℕ → ℕ → ℕ → ℕ → State
 begins kind day amount a b = let r = raw 1 kind day amount a b in begun r (outcomeOf r 0 0 noAccount missing)
 
--- an entry after it
+-- an entry after it: each is posted as the second of a book whose node's last serial is 1
 abbrev post : State → ℕ → ℕ → ℕ → ℕ → ℕ → Outcome
 post s kind day amount a b = outcomeOf (raw 2 kind day amount a b) 1 1 (s .account) (found 0 (s .first))
 

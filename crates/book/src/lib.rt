@@ -31,7 +31,7 @@ pub struct Serials {
 
 pub struct Book {
     pub accounts: [Account; Book::ACCOUNTS],
-    // Between the arrays, since the compiler then fills each of a fresh book's in fewer copies.
+    // Between the arrays: the compiler then fills those of a fresh book with fewer copies.
     pub last: Serials,
     pub entries: [Entry; Book::ENTRIES],
     // How many entries there are: they stand at the places before this one.

@@ -11,7 +11,7 @@ use borrow.Author.Tests.{eq-eqb, eqb-true, le-leb, leb-true, not-false}
 use Rattle.entries.specs.Refusals.{ruleOf}
 use Rattle.entries.specs.declared.refusals.Refusal.{Refusal}
 use Rattle.entries.specs.declared.refusals.Check.the-variants as check
-use Rattle.entries.proofs.Rows.{silent}
+use Rattle.entries.proofs.Rows.{rowOf, unbroken}
 use Rattle.entries.proofs.Ranges.{both-true}
 use Rattle.codec.specs.Bytes.{le, Bytes}
 use Rattle.codec.specs.Headers.{mark, headerOf, countIn, fitsOf, marked, imageRows, checkOf}
@@ -60,7 +60,6 @@ fits-ends n e =
 -- what an image that passes the checks satisfies
 pub record Checked (l : List ℕ) : Type 0 where
   pub low : 24 ≤ length l
-  pub high : length l ≤ 24600
   pub sized : length l ≡ 24 * (countIn l + 1)
   pub same-mark : take 4 l ≡ mark
   pub same-zeros : take 18 (drop 6 l) ≡ replicate 18 0
@@ -68,13 +67,12 @@ pub record Checked (l : List ℕ) : Type 0 where
 pub checked : (l : List ℕ) → checkOf l ≡ check.Passed → Checked l
 unfolding checkOf
 checked l e =
-    let rows = silent check.Passed (imageRows l) e .1 in
-    let fits = fits-ends (length l) (not-false _ (rows .0)) in
-    let marked = both-true _ _ (not-false _ (rows .1 .0)) in
-    let count = eqb-true (countIn l) (length l / 24 - 1) (not-false _ (rows .1 .1 .0)) in
+    let row : (n : ℕ) → rowOf n (imageRows l) .broken ≡ false = λ n. unbroken n check.Passed (imageRows l) e in
+    let fits = fits-ends (length l) (not-false _ (row 17)) in
+    let marked = both-true _ _ (not-false _ (row 18)) in
+    let count = eqb-true (countIn l) (length l / 24 - 1) (not-false _ (row 19)) in
     record {
       low = fits .0;
-      high = fits .1;
       sized = omega arith;
       same-mark = eqList-eq (take 4 l) mark (marked .0);
       same-zeros = eqList-eq (take 18 (drop 6 l)) (replicate 18 0) (marked .1);

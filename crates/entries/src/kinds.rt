@@ -118,7 +118,7 @@ impl Kind {
         )
     }
 
-    // Whether an entry of this kind, which names one, names one of another kind wrongly.
+    // Of a kind that names an entry: whether it may not name one of the other kind.
     pub fn misnames(self, other: Kind) -> bool
         ensures { λ r. ⌜ r ≡ misnamesOf self other ⌝ }
     {

@@ -13,7 +13,7 @@ use Rattle.entries.specs.declared.raw.Raw.{Raw}
 use Rattle.entries.specs.declared.kinds.Kind.{Kind}
 use Rattle.entries.specs.declared.kinds.Kind.the-variants as kind
 use Rattle.entries.proofs.Ranges.{inside, Ranged, ranged}
-use Rattle.history.specs.History.{accounts, entries, periodEnd, History, lastSerial, naming, suits, Sought, missing, found, find, named, Fate, fate, entryIn, fateIn, Balance, balance, Row, firstOf, refusals, judge}
+use Rattle.history.specs.History.{accounts, entries, periodEnd, History, lastSerial, naming, suits, Sought, missing, found, find, named, Fate, fate, entryIn, fateIn, Balance, balance, Row, _⇒_, firstOf, refusals, judge}
 use Rattle.history.specs.Laws.{Valid, empty, joins}
 
 pub or-left : (a b : Bool) → (a || b) ≡ false → a ≡ false
@@ -24,22 +24,28 @@ pub or-right : (a b : Bool) → (a || b) ≡ false → b ≡ false
 or-right true b e = absurd (true≢false e)
 or-right false b e = e
 
--- a table of rules that refuses nothing: no rule is broken
-abbrev pub Silent : List Row → Type 0
-Silent [] = Unit {0}
-Silent (x ∷ xs) = (x .broken ≡ false) × Silent xs
-
 abbrev pub Numbered : List Row → Type 0
 Numbered [] = Unit {0}
 Numbered (x ∷ xs) = (0 < x .number) × Numbered xs
 
-silent : (xs : List Row) → Numbered xs → firstOf xs ≡ 0 → Silent xs
-silent [] n e = tt
-silent (x ∷ xs) n e = go (λ q. silent xs (n .1) q) (x .broken) refl e
+-- the row of a number; one that is not broken where the table has none
+abbrev rowOf : ℕ → List Row → Row
+rowOf n [] = false ⇒ n
+rowOf n (x ∷ xs) = cond (eqb (x .number) n) x (rowOf n xs)
+
+-- where a table refuses nothing, no row of it is broken
+unbroken : (n : ℕ) (xs : List Row) → Numbered xs → firstOf xs ≡ 0 → rowOf n xs .broken ≡ false
+unbroken n [] m e = refl
+unbroken n (x ∷ xs) m e = by (x .broken) (λ q. unbroken n xs (m .1) q) refl e
   where
-    go : (firstOf xs ≡ 0 → Silent xs) → (t : Bool) → x .broken ≡ t → cond t (x .number) (firstOf xs) ≡ 0 → Silent (x ∷ xs)
-    go ih true p q = absurd (omega (arith, n .0))
-    go ih false p q = (p, ih q)
+    pick : (t : Bool) → x .broken ≡ false → rowOf n xs .broken ≡ false → cond t x (rowOf n xs) .broken ≡ false
+    pick true p q = p
+    pick false p q = q
+
+    by : (t : Bool) → (firstOf xs ≡ 0 → rowOf n xs .broken ≡ false) → x .broken ≡ t → cond t (x .number) (firstOf xs) ≡ 0 →
+        cond (eqb (x .number) n) x (rowOf n xs) .broken ≡ false
+    by true ih p q = absurd (omega (arith, m .0))
+    by false ih p q = pick (eqb (x .number) n) p (ih q)
 
 -- THE RANGES OF FIELDS
 highs : (k : Kind) (a : ℕ) → let l = limitsOf k a in (l .«amount_high» ≤ amountMost) × (l .«a_high» ≤ 65535) × (a ≤ l .«a_high» → l .«b_high» ≤ 62)
@@ -104,25 +110,24 @@ pub record Passed (h : History) (r : Raw) (k : Kind) (e : Raw) (f : Fate) (b : B
 
 pass : (h : History) (r : Raw) (k : Kind) (e : Raw) (f : Fate) (b : Balance) → firstOf (refusals h r k e f b) ≡ 0 → Passed h r k e f b
 pass h r k e f b z =
-    let s = silent (refusals h r k e f b) (omega arith) z in
-    let node = inside (r .node) 1 2 (not-false _ (s .1 .0)) in
-    let account = inside (r .account) 1 accounts (not-false _ (s .1 .1 .0)) in
-    let late = s .1 .1 .1 .1 .1 in
+    let row : (n : ℕ) → rowOf n (refusals h r k e f b) .broken ≡ false = λ n. unbroken n (refusals h r k e f b) (omega arith) z in
+    let node = inside (r .node) 1 2 (not-false _ (row 2)) in
+    let account = inside (r .account) 1 accounts (not-false _ (row 3)) in
     record {
-      kind-known = s .0;
+      kind-known = row 1;
       node-low = node .0;
       node-high = node .1;
       account-low = account .0;
       account-high = account .1;
-      day = ltb-false _ _ (s .1 .1 .1 .0);
-      ranges = in-range r k (not-false _ (s .1 .1 .1 .1 .0));
-      serial-above = leb-false _ _ (late .0);
-      room = leb-false _ _ (late .1 .0);
-      suited = late .1 .1 .0;
-      deposit = late .1 .1 .1 .0;
-      unclosed = late .1 .1 .1 .1 .1 .0;
-      period-runs = late .1 .1 .1 .1 .1 .1 .0;
-      uncorrected = late .1 .1 .1 .1 .1 .1 .1 .1 .1 .1 .0;
+      day = ltb-false _ _ (row 4);
+      ranges = in-range r k (not-false _ (row 5));
+      serial-above = leb-false _ _ (row 6);
+      room = leb-false _ _ (row 7);
+      suited = row 8;
+      deposit = row 9;
+      unclosed = row 11;
+      period-runs = row 12;
+      uncorrected = row 16;
     }
 
 abbrev pub Accepts : History → Raw → Type 0

@@ -18,7 +18,7 @@ use Rattle.queries.specs.Chain as chains
 use Rattle.queries.specs.Statement.{statementOf}
 use Rattle.queries.specs.declared.statements.StatementReply.{StatementReply}
 use Rattle.history.specs.History.{History, points, fate, amounts, entriesOf, toArrears, refundsPaid, customers}
-use Rattle.history.specs.Laws.{In, newest, older, Sums, sumsOf, Refunds, Once, Each}
+use Rattle.history.specs.Laws.{In, newest, older, Sums, sumsOf, Refunds, Once, Each, HasContribution}
 use Rattle.history.specs.Queries.{statementBy, statementIn}
 use Rattle.history.specs.Agreement.{Kept}
 use Rattle.history.specs.Calls.{Call, answersIn, historyOf}
@@ -81,8 +81,10 @@ module _ (cs : List Call) where
       amounts g c .settled + amounts g c .paidOut ≡ min (fate g e .held) (e .amount * c .a / (e .a * (customers g e + 2)))
   refunds x g c e q m k p = omega (arith, each-at Refunds x c g (subst (λ y. Each Refunds y) q (demand3 cs .lawful .refunds)) e m k p)
 
-  contributed : (c : Raw) → In c h → kindOf (c .kind) ≡ kind.AddedCustomer → (e : Raw) × In e h × (kindOf (e .kind) ≡ kind.Contribution) × (points c e ≡ true)
-  contributed c m k = let w = demand3 cs .lawful .contributed c m k in (w .entry, w .member, w .contribution, w .aimed)
+  contributed : (x g : History) (c : Raw) → h ≡ x ++ c ∷ g → kindOf (c .kind) ≡ kind.AddedCustomer → (e : Raw) × In e g × (kindOf (e .kind) ≡ kind.Contribution) × (points c e ≡ true)
+  contributed x g c q k =
+      let w = each-at HasContribution x c g (subst (λ y. Each HasContribution y) q (demand3 cs .lawful .contributed)) k in
+      (w .entry, w .member, w .contribution, w .aimed)
 
   in-period : (c e : Raw) → In c h → In e h → kindOf (c .kind) ≡ kind.AddedCustomer → points c e ≡ true → c .day < e .day + 1826
   in-period c e m n k p = omega (arith, demand3 cs .lawful .in-period c e m n k p)

@@ -7,7 +7,7 @@ use Rattle.entries.specs.declared.raw.Raw.{Raw}
 use Rattle.history.specs.History.{History, judge, joined, offer, offers}
 use Rattle.history.specs.Laws.{Valid, empty, joins, Lawful, Bounded, Laws}
 use Rattle.history.proofs.Accept.{fits}
-use Rattle.history.proofs.Names.{refunded, in-period, once}
+use Rattle.history.proofs.Names.{contributed, in-period, once}
 use Rattle.history.proofs.Conserve.{conserve, divide, refunds-all}
 use Rattle.history.proofs.Bound.{bounded, added-small}
 
@@ -18,7 +18,7 @@ lawful h v =
       divided = λ e m c. divide v e m c .0;
       refunds = refunds-all v;
       counted = λ e m c. omega (arith, divide v e m c);
-      contributed = λ c m k. refunded v c m k .0;
+      contributed = contributed v;
       in-period = λ c e m n k p. omega (arith, in-period v c e m n k p);
       once = once v;
     }

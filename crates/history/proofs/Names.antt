@@ -13,7 +13,7 @@ use Rattle.entries.specs.declared.kinds.Kind.{Kind}
 use Rattle.entries.specs.declared.kinds.Kind.the-variants as kind
 use Rattle.entries.proofs.Ranges.{both-true}
 use Rattle.history.specs.History.{periodEnd, History, lastSerial, naming, points, names, Sought, missing, found, find, Fate, posted, change, fate, Amounts, amounts, judge, ofCustomers}
-use Rattle.history.specs.Laws.{Valid, empty, joins, In, newest, older, Contributed, Again, Once, Each}
+use Rattle.history.specs.Laws.{Valid, empty, joins, In, newest, older, Contributed, Again, Once, Each, HasContribution}
 use Rattle.history.proofs.Accept.{accepts, Sort, as-contribution, as-added, as-bill, as-payment, as-deposit, as-return, as-expiry, as-correction, sorted, Role, alone, upon, role}
 
 -- last serials rise
@@ -266,22 +266,26 @@ added-found c (as-return q) k = let z : _≡_ {A = ℕ} 0 1 = cc in absurd (omeg
 added-found c (as-expiry q i x f l o) k = let z : _≡_ {A = ℕ} 0 1 = cc in absurd (omega arith)
 added-found c (as-correction q i x f b l u) k = let z : _≡_ {A = ℕ} 0 1 = cc in absurd (omega arith)
 
-abbrev pub Refunded : History → Raw → Type 0
+abbrev Refunded : History → Raw → Type 0
 Refunded h c = (w : Contributed h c) × (c .day < periodEnd (w .entry))
 
-refunded-new : {h : History} → Valid h → (r : Raw) → judge h r ≡ 0 → kindOf (r .kind) ≡ kind.AddedCustomer → Refunded (r ∷ h) r
+refunded-new : {h : History} → Valid h → (r : Raw) → judge h r ≡ 0 → kindOf (r .kind) ≡ kind.AddedCustomer → Refunded h r
 refunded-new {h} v r j k =
     let w = added-found r (sorted h r j) k in
     let x = hit v r (w .place) (w .entry) (w .at) in
-    (record { entry = w .entry; member = older (x .member); contribution = w .contribution; aimed = x .aimed }, w .day)
+    (record { entry = w .entry; member = x .member; contribution = w .contribution; aimed = x .aimed }, w .day)
 
-pub refunded : {h : History} → Valid h → (c : Raw) → In c h → kindOf (c .kind) ≡ kind.AddedCustomer → Refunded h c
+pub contributed : {h : History} → Valid h → Each HasContribution h
+contributed empty = tt
+contributed (joins {r} v j) = (λ k. refunded-new v r j k .0, contributed v)
+
+with-newer : {r : Raw} {h : History} (c : Raw) → Refunded h c → Refunded (r ∷ h) c
+with-newer c w = let x = w .0 in (record { entry = x .entry; member = older (x .member); contribution = x .contribution; aimed = x .aimed }, w .1)
+
+refunded : {h : History} → Valid h → (c : Raw) → In c h → kindOf (c .kind) ≡ kind.AddedCustomer → Refunded h c
 refunded (joins {r} {h} v j) c (newest q) k =
-    subst (λ y. kindOf (y .kind) ≡ kind.AddedCustomer → Refunded (r ∷ h) y) q (refunded-new v r j) k
-refunded (joins v j) c (older t) k =
-    let w = refunded v c t k in
-    let x = w .0 in
-    (record { entry = x .entry; member = older (x .member); contribution = x .contribution; aimed = x .aimed }, w .1)
+    subst (λ y. kindOf (y .kind) ≡ kind.AddedCustomer → Refunded (r ∷ h) y) q (λ k. with-newer r (refunded-new v r j k)) k
+refunded (joins v j) c (older t) k = with-newer c (refunded v c t k)
 
 pub in-period : {h : History} → Valid h → (c e : Raw) → In c h → In e h → kindOf (c .kind) ≡ kind.AddedCustomer → points c e ≡ true → c .day < periodEnd e
 in-period v c e m n k p =

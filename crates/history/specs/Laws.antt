@@ -88,12 +88,15 @@ abbrev pub Each : (Raw → History → Type 0) → History → Type 0
 Each P [] = Unit {0}
 Each P (c ∷ h) = P c h × Each P h
 
--- the contribution of an added customer c
+-- the contribution of an added customer c, among the entries older than it
 pub record Contributed (h : History) (c : Raw) : Type 0 where
   pub entry : Raw
   pub member : In entry h
   pub contribution : kindOf (entry .kind) ≡ kind.Contribution
   pub aimed : points c entry ≡ true
+
+abbrev pub HasContribution : Raw → History → Type 0
+HasContribution c h = kindOf (c .kind) ≡ kind.AddedCustomer → Contributed h c
 
 -- the demand's claims
 pub record Lawful (h : History) : Type 0 where
@@ -105,7 +108,7 @@ pub record Lawful (h : History) : Type 0 where
   pub refunds : Each Refunds h
   pub counted : (e : Raw) → In e h → kindOf (e .kind) ≡ kind.Contribution → fate h e .added ≡ customers h e
   -- refunds are the added customers, with their days: each has its contribution, and none is 1,826 days or more after it
-  pub contributed : (c : Raw) → In c h → kindOf (c .kind) ≡ kind.AddedCustomer → Contributed h c
+  pub contributed : Each HasContribution h
   pub in-period : (c e : Raw) → In c h → In e h → kindOf (c .kind) ≡ kind.AddedCustomer → points c e ≡ true → c .day < periodEnd e
   -- no two corrections on one account name the same entry
   pub once : Each Once h

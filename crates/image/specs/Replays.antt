@@ -1,4 +1,4 @@
--- Records posted in turn, as the code does it for a load and for a carry-over; no promise of a call cites it.
+-- Records posted in turn, as the code does it for a load and for a carry-over; no promise of a load or of an exported call cites it.
 use Prim.Native.Nat.{ℕ, _+_, _/_}
 use mathlib.Core.Bool.{Bool, true, false, cond, not, _&&_}
 use mathlib.Core.List.{List, [], _∷_}

@@ -1,9 +1,8 @@
-// The statement printer.
+// What the statement printer writes.
 use book::Book;
 use book::slot;
 use image::LoadAnswer;
 use image::Loaded;
-use image::load;
 use lines::account_line;
 use lines::end_line;
 use lines::refused_line;
@@ -59,13 +58,4 @@ pub fn print_loaded(loaded: Loaded) {
     let mut text = [0u8; ROOM];
     let n = printed(loaded, &mut text);
     io::write_all(1, &text[..n]);
-}
-
-// The printer: reads an image from standard input, loads it and writes what it gives. No contract can say what is read and written, so
-// what is proved is `load` of the bytes that were read and `printed` of what it gives.
-pub fn print_input() {
-    // One byte more than the longest image has, so that a longer one is noticed.
-    let mut image = [0u8; codec::LONGEST + 1];
-    let n = io::read_full(0, &mut image);
-    print_loaded(load(&image[..n]));
 }

@@ -10,7 +10,7 @@ const U16: u64 = 65535;
 
 const U32: u64 = 4294967295;
 
-// The bytes of the buffer: one record more than the longest image.
+// The bytes of the buffer: two records more than the longest image.
 pub const BUFFER: usize = 24648;
 
 // The most places of a carry-over's result list.

@@ -47,7 +47,7 @@ pub fn print_row<const N: usize>(name: &str, postings: usize, times: &Times<N>) 
 }
 
 /// The second table: the printers, and what each takes beyond a process that
-/// loads and prints nothing: the bare one, and its own on a refused image.
+/// loads no book: the bare one, and its own on a refused image.
 pub fn print_printers<const N: usize>(times: &Times<N>) {
     println!();
     println!("| Process, full image | µs | beyond a bare process | beyond a refused image |");
