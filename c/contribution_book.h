@@ -33,12 +33,12 @@ extern "C" {
 
 /* The bytes of an image's header and of each record, and of the longest image: the header and 1,024 records. */
 #define CONTRIBUTION_BOOK_RECORD 24
-#define CONTRIBUTION_BOOK_LONGEST 24600
+#define CONTRIBUTION_BOOK_LONGEST_IMAGE 24600
 
 /* The image of a fresh book, as the initializer of an array of CONTRIBUTION_BOOK_RECORD bytes. */
 #define CONTRIBUTION_BOOK_FRESH {'C', 'H', 'B', '1'}
 
-struct contribution_book_checked {
+struct contribution_book_check_given {
     uint8_t refusal;
     uint16_t record;
     uint16_t entries; /* how many entries the book has */
@@ -51,9 +51,9 @@ struct contribution_book_checked {
  * Refuses  the image, by 17 to 19, or by 1 to 16 and 20 with the record at fault.
  * Leaves   nothing: it writes to no buffer.
  */
-struct contribution_book_checked contribution_book_check(const uint8_t *image, size_t image_length);
+struct contribution_book_check_given contribution_book_check(const uint8_t *image, size_t image_length);
 
-struct contribution_book_posted {
+struct contribution_book_posting_given {
     uint8_t refusal;
     uint16_t record;
     uint16_t number;   /* the number of the entry, from 1 */
@@ -72,10 +72,11 @@ struct contribution_book_posted {
  *          than the next image.
  * Leaves   the next image at the start of the output, which must not overlap the image or the entry.
  */
-struct contribution_book_posted contribution_book_post(const uint8_t *image, size_t image_length, const uint8_t *entry,
-                                                       size_t entry_length, uint8_t *output, size_t output_length);
+struct contribution_book_posting_given contribution_book_post(const uint8_t *image, size_t image_length,
+                                                              const uint8_t *entry, size_t entry_length,
+                                                              uint8_t *output, size_t output_length);
 
-struct contribution_book_carried {
+struct contribution_book_carry_given {
     uint8_t refusal;
     uint16_t record;
     size_t bytes; /* the length of the image written */
@@ -91,13 +92,13 @@ struct contribution_book_carried {
  * Leaves   each entry's refusal number, or 0, at its place in the result list, and the next image at the start of the
  *          output. The two must not overlap each other, the image or the run.
  *
- * An output of CONTRIBUTION_BOOK_LONGEST bytes always has room. Where an output has no room for the image with all the
- * entries, each is posted twice, the first time only to learn whether the next image fits.
+ * An output of CONTRIBUTION_BOOK_LONGEST_IMAGE bytes always has room. Where an output has no room for the image with
+ * all the entries, each is posted twice, the first time only to learn whether the next image fits.
  */
-struct contribution_book_carried contribution_book_carry_over(const uint8_t *image, size_t image_length,
-                                                              const uint8_t *run, size_t run_length, uint8_t *results,
-                                                              size_t results_length, uint8_t *output,
-                                                              size_t output_length);
+struct contribution_book_carry_given contribution_book_carry_over(const uint8_t *image, size_t image_length,
+                                                                  const uint8_t *run, size_t run_length,
+                                                                  uint8_t *results, size_t results_length,
+                                                                  uint8_t *output, size_t output_length);
 
 struct contribution_book_statement_given {
     uint8_t refusal;

@@ -37,12 +37,12 @@ static int refused(const char *call, uint8_t refusal, uint16_t record) {
 
 int main(void) {
     static const uint8_t fresh[CONTRIBUTION_BOOK_RECORD] = CONTRIBUTION_BOOK_FRESH;
-    static uint8_t first[CONTRIBUTION_BOOK_LONGEST], second[CONTRIBUTION_BOOK_LONGEST];
+    static uint8_t first[CONTRIBUTION_BOOK_LONGEST_IMAGE], second[CONTRIBUTION_BOOK_LONGEST_IMAGE];
 
     /* A payment of 2,500 by node 1. */
     uint8_t payment[CONTRIBUTION_BOOK_RECORD];
     put_entry(payment, PAYMENT, 1, 1, 2500, 0, 0);
-    struct contribution_book_posted posted =
+    struct contribution_book_posting_given posted =
         contribution_book_post(fresh, sizeof fresh, payment, sizeof payment, first, sizeof first);
     if (posted.refusal != 0) {
         return refused("post", posted.refusal, posted.record);
@@ -53,7 +53,7 @@ int main(void) {
     uint8_t run[2 * CONTRIBUTION_BOOK_RECORD], results[2];
     put_entry(run, CONTRIBUTION, 2, 1, 300000, 200, 1);
     put_entry(run + CONTRIBUTION_BOOK_RECORD, CONTRIBUTION, 2, 2, 300000, 0, 1);
-    struct contribution_book_carried carried = contribution_book_carry_over(
+    struct contribution_book_carry_given carried = contribution_book_carry_over(
         first, posted.bytes, run, sizeof run, results, sizeof results, second, sizeof second);
     if (carried.refusal != 0) {
         return refused("carry_over", carried.refusal, carried.record);

@@ -3,7 +3,7 @@
 //!
 //! No call is inlined: an inlined one passes no book.
 
-use crate::plain::{self, ContributionReply, Raw, Reply, StatementReply, RECORD};
+use crate::plain::{self, ContributionReply, PostingReply, Raw, StatementReply, RECORD};
 
 /// The contribution book, passed by value.
 #[derive(Clone, Debug, PartialEq, Eq)]
@@ -26,7 +26,7 @@ impl Book {
 
     /// Posts one entry.
     #[inline(never)]
-    pub fn post(mut self, raw: &Raw) -> (Book, Reply) {
+    pub fn post(mut self, raw: &Raw) -> (Book, PostingReply) {
         let reply = self.plain.post(raw);
         (self, reply)
     }

@@ -1,12 +1,12 @@
 //! The plain book's answers as the proved library gives them.
 
-use crate::plain::{ContributionReply, Reply, StatementReply};
-use crate::proved::{ContributionGiven, Posted, StatementGiven};
+use crate::plain::{ContributionReply, PostingReply, StatementReply};
+use crate::proved::{ContributionGiven, PostingGiven, StatementGiven};
 
-impl Posted {
+impl PostingGiven {
     /// The answer to a posting after which the image has so many bytes.
-    pub fn new(reply: Reply, bytes: usize) -> Posted {
-        Posted {
+    pub fn new(reply: PostingReply, bytes: usize) -> PostingGiven {
+        PostingGiven {
             refusal: reply.refusal,
             record: 0,
             number: reply.number,
@@ -41,7 +41,7 @@ impl From<ContributionReply> for ContributionGiven {
         ContributionGiven {
             refusal: reply.refusal,
             record: 0,
-            added: reply.customers,
+            added: reply.added,
             closed: reply.closed,
             amount: reply.amount,
             to_arrears: reply.to_arrears,

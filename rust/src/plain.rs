@@ -19,16 +19,16 @@ pub const ENTRIES: usize = 1024;
 /// Bytes of an image's header and of each of its records.
 pub const RECORD: usize = 24;
 /// Bytes of the longest image, a full book's.
-pub const LONGEST: usize = RECORD * (ENTRIES + 1);
+pub const LONGEST_IMAGE: usize = RECORD * (ENTRIES + 1);
 
 /// The last day, 2099-12-31.
 pub const LAST_DAY: u16 = 36_524;
-pub const MAX_AMOUNT: u32 = 100_000_000;
+pub const AMOUNT_MOST: u32 = 100_000_000;
 pub const MAX_PERIOD: u16 = 62;
 pub const MAX_RATE: u16 = 2_000;
 /// The days after a contribution from which an expiry may come and an added
 /// customer may not.
-pub const REFUND_DAYS: u16 = 1_826;
+pub const REFUND_PERIOD: u16 = 1_826;
 
 pub const CONTRIBUTION: u8 = 1;
 pub const ADDED_CUSTOMER: u8 = 2;
@@ -38,6 +38,8 @@ pub const DEPOSIT: u8 = 5;
 pub const DEPOSIT_RETURN: u8 = 6;
 pub const EXPIRY: u8 = 7;
 pub const CORRECTION: u8 = 8;
+/// Kinds are numbered from 1 to this.
+pub const LAST_KIND: u8 = CORRECTION;
 
 /// An entry as it is offered to the book, its fields unchecked.
 #[derive(Clone, Copy, Debug, Default, PartialEq, Eq)]
@@ -56,7 +58,7 @@ pub struct Raw {
 
 /// The answer to a posting. A refused posting has zeros beside its refusal.
 #[derive(Clone, Copy, Debug, Default, PartialEq, Eq)]
-pub struct Reply {
+pub struct PostingReply {
     pub refusal: u8,
     /// The accepted entry's number, from 1.
     pub number: u16,
@@ -67,11 +69,11 @@ pub struct Reply {
     pub interest: u64,
 }
 
-impl Reply {
-    fn refused(refusal: u8) -> Reply {
-        Reply {
+impl PostingReply {
+    fn refused(refusal: u8) -> PostingReply {
+        PostingReply {
             refusal,
-            ..Reply::default()
+            ..PostingReply::default()
         }
     }
 }
@@ -95,7 +97,7 @@ struct Entry {
     /// Contribution: the amount its expiry retained.
     retained: u64,
     /// Contribution: added customers accepted.
-    customers: u16,
+    added: u16,
     /// Contribution: an expiry closed it.
     closed: bool,
 }
@@ -127,7 +129,7 @@ impl Entry {
             to_arrears: 0,
             paid_out: 0,
             retained: 0,
-            customers: 0,
+            added: 0,
             closed: false,
         }
     }
@@ -143,7 +145,7 @@ struct Account {
     /// The held deposit's yearly rate in hundredths of a percent.
     rate: u16,
     /// The held deposit's day.
-    deposit_day: u16,
+    deposited: u16,
     /// The number of the account's newest entry; zero where it has none.
     newest: u16,
 }
@@ -154,7 +156,7 @@ impl Account {
         credit: 0,
         deposit: 0,
         rate: 0,
-        deposit_day: 0,
+        deposited: 0,
         newest: 0,
     };
 

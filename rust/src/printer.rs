@@ -1,12 +1,12 @@
 //! What the statement printers over the plain book share.
 
-use crate::plain::{StatementReply, LONGEST};
+use crate::plain::{StatementReply, LONGEST_IMAGE};
 use std::io::{self, Read, Write};
 
 /// The image on standard input. One byte more than the longest image has is
 /// read, so that a longer one is noticed.
 pub fn read_image() -> io::Result<Vec<u8>> {
-    let most = LONGEST + 1;
+    let most = LONGEST_IMAGE + 1;
     let mut image = Vec::with_capacity(most);
     io::stdin().take(most as u64).read_to_end(&mut image)?;
     Ok(image)

@@ -5,14 +5,14 @@
 /// Bytes of an image's header and of each record.
 pub const RECORD: usize = 24;
 /// Bytes of the longest image: the header and 1,024 records.
-pub const LONGEST: usize = 24_600;
+pub const LONGEST_IMAGE: usize = 24_600;
 /// The image of a fresh book.
 pub const FRESH: [u8; RECORD] = *b"CHB1\0\0\0\0\0\0\0\0\0\0\0\0\0\0\0\0\0\0\0\0";
 
 /// What `check` gives.
 #[repr(C)]
 #[derive(Clone, Copy, Debug, Default, PartialEq, Eq)]
-pub struct Checked {
+pub struct CheckGiven {
     pub refusal: u8,
     pub record: u16,
     pub entries: u16,
@@ -21,7 +21,7 @@ pub struct Checked {
 /// What `post` gives.
 #[repr(C)]
 #[derive(Clone, Copy, Debug, Default, PartialEq, Eq)]
-pub struct Posted {
+pub struct PostingGiven {
     pub refusal: u8,
     pub record: u16,
     pub number: u16,
@@ -35,7 +35,7 @@ pub struct Posted {
 /// What `carry_over` gives.
 #[repr(C)]
 #[derive(Clone, Copy, Debug, Default, PartialEq, Eq)]
-pub struct Carried {
+pub struct CarryGiven {
     pub refusal: u8,
     pub record: u16,
     pub bytes: usize,
@@ -73,7 +73,7 @@ pub struct ContributionGiven {
 }
 
 extern "C" {
-    fn contribution_book_check(image: *const u8, image_length: usize) -> Checked;
+    fn contribution_book_check(image: *const u8, image_length: usize) -> CheckGiven;
 
     fn contribution_book_post(
         image: *const u8,
@@ -82,7 +82,7 @@ extern "C" {
         entry_length: usize,
         output: *mut u8,
         output_length: usize,
-    ) -> Posted;
+    ) -> PostingGiven;
 
     fn contribution_book_carry_over(
         image: *const u8,
@@ -93,7 +93,7 @@ extern "C" {
         results_length: usize,
         output: *mut u8,
         output_length: usize,
-    ) -> Carried;
+    ) -> CarryGiven;
 
     fn contribution_book_statement(
         image: *const u8,
@@ -112,14 +112,14 @@ extern "C" {
 }
 
 /// Checks an image.
-pub fn check(image: &[u8]) -> Checked {
+pub fn check(image: &[u8]) -> CheckGiven {
     // SAFETY: the pointer and length are a slice's, so the pointer is not null
     // and the bytes can be read; the call keeps no pointer.
     unsafe { contribution_book_check(image.as_ptr(), image.len()) }
 }
 
 /// Posts one entry; the next image goes to the start of the output.
-pub fn post(image: &[u8], entry: &[u8], output: &mut [u8]) -> Posted {
+pub fn post(image: &[u8], entry: &[u8], output: &mut [u8]) -> PostingGiven {
     // SAFETY: as in `check`; and the output, borrowed mutably, overlaps no
     // other slice.
     unsafe {
@@ -136,7 +136,7 @@ pub fn post(image: &[u8], entry: &[u8], output: &mut [u8]) -> Posted {
 
 /// Posts each entry of a run; its refusal number, or 0, goes to its place in
 /// the result list, and the next image to the start of the output.
-pub fn carry_over(image: &[u8], run: &[u8], results: &mut [u8], output: &mut [u8]) -> Carried {
+pub fn carry_over(image: &[u8], run: &[u8], results: &mut [u8], output: &mut [u8]) -> CarryGiven {
     // SAFETY: as in `check`; and the result list and the output, each borrowed
     // mutably, overlap no other slice.
     unsafe {

@@ -44,8 +44,8 @@ fn posted(entries: &[Raw]) -> (plain::Book, by_value::Book) {
 
 /// Saves both books and compares their images.
 fn saved(plain: &plain::Book, by_value: by_value::Book) -> Vec<u8> {
-    let mut image = [0xEE; LONGEST];
-    let mut same = [0xEE; LONGEST];
+    let mut image = [0xEE; LONGEST_IMAGE];
+    let mut same = [0xEE; LONGEST_IMAGE];
     let (refusal, length) = plain.save(&mut image);
     let (_, same_refusal, same_length) = by_value.save(&mut same);
     assert_eq!((refusal, length), (same_refusal, same_length));

@@ -108,9 +108,9 @@ fn accepted(book: &mut Book, raw: Raw) -> [u64; 4] {
 /// unchanged.
 fn refused(book: &mut Book, raw: Raw, refusal: u8) {
     let before = book.clone();
-    let expected = Reply {
+    let expected = PostingReply {
         refusal,
-        ..Reply::default()
+        ..PostingReply::default()
     };
     assert_eq!(book.post(&raw), expected, "{raw:?}");
     assert!(*book == before, "{raw:?}");
@@ -154,7 +154,7 @@ fn p1_to_p5_refunds() {
         amount: 300_000,
         to_arrears: 80_000,
         paid_out: 220_000,
-        customers: 5,
+        added: 5,
         ..ContributionReply::default()
     };
     assert_eq!(book.contribution_query(5, 1, 1), expected);
@@ -339,7 +339,7 @@ fn all_refused(entries: &[Raw], refusal: u8) {
 #[test]
 fn refusals_1_to_4_common_fields() {
     let good = payment(1, 1);
-    all_refused(&[0, 9, 255].map(|kind| Raw { kind, ..good }), 1);
+    all_refused(&[0, LAST_KIND + 1, 255].map(|kind| Raw { kind, ..good }), 1);
     all_refused(&[0, 3].map(|node| Raw { node, ..good }), 2);
     all_refused(&[0, 129].map(|account| Raw { account, ..good }), 3);
     all_refused(&[on(36_525, good)], 4);
@@ -486,10 +486,10 @@ fn refusal_17_image_length() {
     assert_eq!(full.len(), 24_600);
     load_refused(&full[..23], 17, 0);
     load_refused(&full[..25], 17, 0);
-    load_refused(&full[..LONGEST - 1], 17, 0);
+    load_refused(&full[..LONGEST_IMAGE - 1], 17, 0);
     let mut longer = full.clone();
-    longer.resize(LONGEST + 24, 0);
-    load_refused(&longer[..LONGEST + 1], 17, 0);
+    longer.resize(LONGEST_IMAGE + 24, 0);
+    load_refused(&longer[..LONGEST_IMAGE + 1], 17, 0);
     load_refused(&longer, 17, 0);
 
     let (loaded, refusal, record) = Book::load(&full);
@@ -541,7 +541,7 @@ fn refusal_20_next_index() {
         bytes[24 * record + 6] = next;
         load_refused(&bytes, 20, record as u16);
         // 1 to 16 come before 20 in the same record.
-        bytes[24 * record] = 9;
+        bytes[24 * record] = LAST_KIND + 1;
         load_refused(&bytes, 1, record as u16);
     }
     let mut high = good.clone();

@@ -1,19 +1,17 @@
--- Laws of the chain: places are inside the arrays, and a search goes link by link.
+-- Laws of the chain: places are inside the arrays, and a walk goes link by link.
 use Prim.Native.Nat.{ℕ, zero, suc, _-_, _<_, _≤_}
 use mathlib.Core.Path.{_≡_, refl}
-use mathlib.Core.Bool.{Bool, true, false, cond, not, _&&_, _||_}
-use mathlib.Core.List.{List}
+use mathlib.Core.Bool.{Bool, true, false, cond, _||_}
+use mathlib.Core.List.{List, [], _∷_}
 use native.Mathlib.Numerals.{sub-one}
 use native.Mathlib.Omega.{arith}
-use lib.ListN.{getD}
+use lib.ListN.{length, getD}
 use lib.Dec.{eqb, ltb}
-use borrow.Author.Tests.{eqb-false, ltb-true, ltb-false}
-use Rattle.entries.specs.Entries.{noEntry, pointsAt}
-use Rattle.entries.specs.declared.raw.Raw.{Raw}
+use borrow.Author.Tests.{eqb-false, ltb-false, lt-ltb, not-true, not-false}
+use Rattle.entries.specs.Data.{noEntry}
 use Rattle.entries.specs.declared.data.Entry.{Entry}
-use Rattle.rules.specs.declared.changes.Found.the-variants.{At, Nothing}
 use Rattle.book.specs.Fresh.{accountsMost, entriesMost}
-use Rattle.book.specs.Chain.{slotOf, endsOf, walksOf, findIn}
+use Rattle.book.specs.Chain.{slotOf, endsOf, placeOf, walksOf, linkAt, walkOf}
 
 pub slot-inside : (account : ℕ) → slotOf account < accountsMost
 unfolding slotOf
@@ -34,45 +32,58 @@ link-inside at = go (eqb at 0) (ltb entriesMost at) refl refl
     go false true e l h = let z : _≡_ {A = ℕ} 0 1 = cc in absurd (omega arith)
     go false false e l h = let z = eqb-false at 0 e in (omega arith, ltb-false entriesMost at l)
 
--- where a search goes on, links are left and the chain does not end
+pub place-link : (at : ℕ) → endsOf at ≡ false → placeOf at ≡ at - 1
+unfolding placeOf
+place-link at e = rw e refl
+
+pub place-inside : (at : ℕ) → placeOf at < entriesMost
+unfolding placeOf
+place-inside at = go (endsOf at) refl
+  where
+    go : (t : Bool) → endsOf at ≡ t → cond t 0 (at - 1) < entriesMost
+    go true e = omega arith
+    go false e = omega (arith, link-inside at e)
+
+-- where a walk goes on, links are left and the chain does not end
 pub walks-on : (at left : ℕ) → walksOf at left ≡ true → (0 < left) × (endsOf at ≡ false)
 unfolding walksOf
-walks-on at left = go (ltb 0 left) (endsOf at) refl
-  where
-    go : (s t : Bool) → ltb 0 left ≡ s → s && not t ≡ true → (0 < left) × (t ≡ false)
-    go true true e h = let z : _≡_ {A = ℕ} 0 1 = cc in absurd (omega arith)
-    go true false e h = (ltb-true 0 left e, refl)
-    go false t e h = let z : _≡_ {A = ℕ} 0 1 = cc in absurd (omega arith)
+walks-on at zero h = let z : _≡_ {A = ℕ} 0 1 = cc in absurd (omega arith)
+walks-on at (suc left) h = (omega arith, not-true _ (rw (lt-ltb 0 (suc left) (omega arith)) at h))
 
-pub findIn-none : (es : List Entry) (r : Raw) (at : ℕ) → findIn es r 0 at ≡ Nothing
-unfolding findIn
-findIn-none es r at = refl
+module _ (es : List Entry) where
+  pub walk-none : (at : ℕ) → walkOf es 0 at ≡ []
+  unfolding walkOf
+  walk-none at = refl
 
-pub findIn-ends : {fuel : ℕ} (es : List Entry) (r : Raw) (at : ℕ) → 0 < fuel → endsOf at ≡ true → findIn es r fuel at ≡ Nothing
-unfolding findIn
-findIn-ends {fuel = zero} es r at h e = absurd (omega arith)
-findIn-ends {fuel = suc f} es r at h e = simp e
+  pub walk-ends : {fuel : ℕ} (at : ℕ) → 0 < fuel → endsOf at ≡ true → walkOf es fuel at ≡ []
+  unfolding walkOf
+  walk-ends {fuel = zero} at h e = absurd (omega arith)
+  walk-ends {fuel = suc f} at h e = simp e
 
-pub findIn-hit : {fuel : ℕ} (es : List Entry) (r : Raw) (at : ℕ) → 0 < fuel → endsOf at ≡ false →
-    pointsAt r (getD es (at - 1) noEntry) ≡ true → findIn es r fuel at ≡ At (at - 1)
-unfolding findIn
-findIn-hit {fuel = zero} es r at h e p = absurd (omega arith)
-findIn-hit {fuel = suc f} es r at h e p = simp (e, p)
+  pub walk-zero : (fuel : ℕ) → walkOf es fuel 0 ≡ []
+  unfolding walkOf endsOf
+  walk-zero zero = refl
+  walk-zero (suc fuel) = refl
 
-pub findIn-miss : {fuel : ℕ} (es : List Entry) (r : Raw) (at : ℕ) → 0 < fuel → endsOf at ≡ false →
-    pointsAt r (getD es (at - 1) noEntry) ≡ false → findIn es r fuel at ≡ findIn es r (fuel - 1) (getD es (at - 1) noEntry .next)
-unfolding findIn
-findIn-miss {fuel = zero} es r at h e p = absurd (omega arith)
-findIn-miss {fuel = suc f} es r at h e p = rw (sub-one (suc f)) (simp (e, p))
+  pub walk-link : {fuel : ℕ} (at : ℕ) → 0 < fuel → endsOf at ≡ false →
+      walkOf es fuel at ≡ linkAt es (placeOf at) ∷ walkOf es (fuel - 1) (getD es (placeOf at) noEntry .next)
+  unfolding walkOf
+  walk-link {fuel = zero} at h e = absurd (omega arith)
+  walk-link {fuel = suc f} at h e = rw (sub-one (suc f)) (simp e)
 
--- where a search does not go on, it finds nothing
-pub findIn-stops : (es : List Entry) (r : Raw) (fuel at : ℕ) → walksOf at fuel ≡ false → findIn es r fuel at ≡ Nothing
-unfolding walksOf
-findIn-stops es r fuel at = go (ltb 0 fuel) (endsOf at) refl refl
-  where
-    go : (s t : Bool) → ltb 0 fuel ≡ s → endsOf at ≡ t → s && not t ≡ false → findIn es r fuel at ≡ Nothing
-    go true true l e h = findIn-ends es r at (ltb-true 0 fuel l) e
-    go true false l e h = let z : _≡_ {A = ℕ} 0 1 = cc in absurd (omega arith)
-    go false t l e h =
-        let z : fuel ≡ 0 = omega (arith, ltb-false 0 fuel l) in
-        rw z (findIn-none es r at)
+  -- where a walk does not go on, no entries are left
+  pub walk-stops : (fuel at : ℕ) → walksOf at fuel ≡ false → walkOf es fuel at ≡ []
+  unfolding walksOf
+  walk-stops zero at h = walk-none at
+  walk-stops (suc f) at h = walk-ends at (omega arith) (not-false _ (rw (lt-ltb 0 (suc f) (omega arith)) at h))
+
+  -- a walk has at most as many entries as links
+  pub walk-short : (fuel at : ℕ) → length (walkOf es fuel at) ≤ fuel
+  unfolding walkOf
+  walk-short zero at = omega arith
+  walk-short (suc fuel) at = go (endsOf at) (walk-short fuel (getD es (placeOf at) noEntry .next))
+    where
+      go : (t : Bool) → length (walkOf es fuel (getD es (placeOf at) noEntry .next)) ≤ fuel →
+          length (cond t [] (linkAt es (placeOf at) ∷ walkOf es fuel (getD es (placeOf at) noEntry .next))) ≤ suc fuel
+      go true h = omega arith
+      go false h = omega arith

@@ -1,4 +1,4 @@
 pub mod Chain
-pub mod Searches
+pub mod SearchLaws
 pub mod Posting
 pub mod Figures

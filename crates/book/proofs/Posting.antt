@@ -1,4 +1,4 @@
--- Laws of a posting: what an accepted one has passed, and what each outcome makes of the book.
+-- Laws of a posting: what an accepted one has passed, and what each decision makes of the book.
 use Prim.Native.Nat.{ℕ, _+_, _<_, _≤_}
 use mathlib.Core.List.{List, [], _∷_}
 use lib.ListN.{length, getD, set}
@@ -7,7 +7,8 @@ use mathlib.Core.Bool.{Bool, true, false, cond}
 use native.Mathlib.Omega.{arith}
 use borrow.Author.Tests.{leb-false}
 use Rattle.entries.specs.Kinds.{kindOf, sameOf, namesOf}
-use Rattle.entries.specs.Entries.{noEntry, entryOf, withOf}
+use Rattle.entries.specs.Data.{noEntry, entryOf, withOf}
+use Rattle.entries.specs.Refusals.{decidedOf}
 use Rattle.entries.specs.declared.raw.Raw.{Raw}
 use Rattle.entries.specs.declared.kinds.Kind.{Kind}
 use Rattle.entries.specs.declared.kinds.Kind.the-variants as kind
@@ -16,99 +17,101 @@ use Rattle.entries.specs.declared.data.Entry.{Entry}
 use Rattle.entries.specs.declared.refusals.Check.{Check}
 use Rattle.entries.specs.declared.refusals.Check.the-variants as check
 use Rattle.entries.specs.declared.refusals.Refusal.{Refusal}
-use Rattle.entries.proofs.Rows.{unbroken}
-use Rattle.rules.specs.Accounts.{noAccount, numberedOf}
-use Rattle.rules.specs.Answers.{replyOf}
-use Rattle.rules.specs.Changes.{answerOf, addedCustomerOf, expiryOf, correctionOf, contributionOf, billOf, paymentOf, depositOf, depositReturnOf, ownChangeOf, namingChangeOf, decidedOf, ownOutcomeOf, namingOutcomeOf}
+use Rattle.entries.proofs.RefusalsLaws.{unbroken}
+use Rattle.rules.specs.Accounts.{noAccount, withNewestOf}
+use Rattle.rules.specs.Answers.{postingReplyOf}
+use Rattle.changes.specs.Changes.{answerOf, addedCustomerOf, expiryOf, correctionOf, contributionOf, billOf, paymentOf, depositOf, depositReturnOf, ownChangeOf, namingChangeOf, ownDecisionOf, namingDecisionOf}
 use Rattle.rules.specs.declared.accounts.Account.{Account}
-use Rattle.rules.specs.declared.answers.Answer.{Answer}
-use Rattle.rules.specs.declared.answers.Answer.the-variants as answer
-use Rattle.rules.specs.declared.changes.Change.{Change}
-use Rattle.rules.specs.declared.changes.Found.{Found}
-use Rattle.rules.specs.declared.changes.Found.the-variants.{At, Nothing}
-use Rattle.rules.specs.declared.changes.Outcome.{Outcome}
-use Rattle.rules.specs.declared.changes.Outcome.the-variants.{Refused, Accepted}
+use Rattle.rules.specs.declared.answers.PostingAnswer.{PostingAnswer}
+use Rattle.rules.specs.declared.answers.PostingAnswer.the-variants as answer
+use Rattle.changes.specs.declared.Change.{Change}
+use Rattle.changes.specs.declared.Found.{Found}
+use Rattle.changes.specs.declared.Found.the-variants.{At, Nothing}
+use Rattle.changes.specs.declared.Decision.{Decision}
+use Rattle.changes.specs.declared.Decision.the-variants.{Refused, Accepted}
 use Rattle.book.specs.Fresh.{entriesMost}
-use Rattle.book.specs.Refusals.{entryRows, checkEntryOf, searchedOf, outcomeOf}
+use Rattle.book.specs.Refusals.{entryRows, checkEntryOf, searchedOf, decisionBy}
 use Rattle.book.specs.Serials.{lastOf, afterOf}
-use Rattle.book.specs.Chain.{slotOf, soughtIn}
-use Rattle.book.specs.Posting.{accountAt, lookupOf, rewritten, storedOf, bookAfter, decisionOf, postOf, postsOf}
+use Rattle.book.specs.Chain.{slotOf, Sought, missing, found}
+use Rattle.book.specs.Posting.{accountAt, lookupOf, entriesRewritten, storedOf, decidedBook, decisionOf, postOf, postsOf}
 use Rattle.book.specs.declared.Book.{Book}
 use Rattle.book.specs.declared.Serials.{Serials}
 
-pub decided-passed : (c : Check) (o : Outcome) (x : Change) → decidedOf c o ≡ Accepted x → (c ≡ check.Passed) × (o ≡ Accepted x)
+pub decided-passed : (c : Check) (o : Decision) (x : Change) → decidedOf c Refused o ≡ Accepted x → (c ≡ check.Passed) × (o ≡ Accepted x)
 unfolding decidedOf
 decided-passed check.Passed o x e = (refl, e)
 decided-passed (check.Refused n) o x e = let z : _≡_ {A = ℕ} 0 1 = cc in absurd (omega arith)
 
 -- an accepted entry found the book not full
 pub room : (b : Book) (r : Raw) (x : Change) → decisionOf b r ≡ Accepted x → b .count < entriesMost
-unfolding decisionOf outcomeOf checkEntryOf
+unfolding decisionOf decisionBy checkEntryOf
 room b r x e =
     let passed = decided-passed _ _ x e .0 in
     leb-false entriesMost (b .count) (unbroken 7 _ (entryRows r (kindOf (r .kind)) (b .count) (lastOf (b .last) (r .node))) passed)
 
 -- what an accepted entry names is what the search found
-same-names : (t : Bool) (x y : Change) (f : Found) → x .names ≡ f → y .names ≡ f → cond t x y .names ≡ f
+same-names : (t : Bool) (x y : Change) (f : Found) → x .«named_at» ≡ f → y .«named_at» ≡ f → cond t x y .«named_at» ≡ f
 same-names true x y f p q = p
 same-names false x y f p q = q
 
-own-names : (r : Raw) (k : Kind) (acc : Account) → ownChangeOf r k acc .names ≡ Nothing
+own-names : (r : Raw) (k : Kind) (acc : Account) → ownChangeOf r k acc .«named_at» ≡ Nothing
 unfolding ownChangeOf contributionOf billOf paymentOf depositOf depositReturnOf
 own-names r k acc =
     same-names (sameOf k kind.Contribution) _ _ Nothing refl
     (same-names (sameOf k kind.Bill) _ _ Nothing refl
     (same-names (sameOf k kind.Payment) _ _ Nothing refl (same-names (sameOf k kind.Deposit) _ _ Nothing refl refl)))
 
-naming-names : (r : Raw) (k : Kind) (acc : Account) (i : ℕ) (d : Data) → namingChangeOf r k acc i d .names ≡ At i
+naming-names : (r : Raw) (k : Kind) (acc : Account) (i : ℕ) (d : Data) → namingChangeOf r k acc i d .«named_at» ≡ At i
 unfolding namingChangeOf addedCustomerOf expiryOf correctionOf
 naming-names r k acc i d =
     same-names (sameOf k kind.AddedCustomer) _ _ (At i) refl (same-names (sameOf k kind.Expiry) _ _ (At i) refl refl)
 
-pub names-found : (b : Book) (r : Raw) (x : Change) (i : ℕ) → decisionOf b r ≡ Accepted x → x .names ≡ At i → lookupOf b r ≡ At i
-unfolding decisionOf outcomeOf searchedOf soughtIn ownOutcomeOf namingOutcomeOf
+pub names-found : (b : Book) (r : Raw) (x : Change) (i : ℕ) → decisionOf b r ≡ Accepted x → x .«named_at» ≡ At i → (e : Entry) × (lookupOf b r ≡ found i e)
+unfolding decisionOf decisionBy searchedOf ownDecisionOf namingDecisionOf
 names-found b r x i e n = go (namesOf (kindOf (r .kind))) (lookupOf b r) (decided-passed _ _ x e .1)
   where
-    is : (c : Check) (y : Change) → decidedOf c (Accepted y) ≡ Accepted x → y ≡ x
+    is : (c : Check) (y : Change) → decidedOf c Refused (Accepted y) ≡ Accepted x → y ≡ x
     is c y q = let same = decided-passed c (Accepted y) x q .1 in cc
 
-    go : (t : Bool) (f : Found) →
-        cond t (searchedOf r (kindOf (r .kind)) (accountAt b (r .account)) (soughtIn (b .entries) f)) (ownOutcomeOf r (kindOf (r .kind)) (accountAt b (r .account))) ≡ Accepted x →
-        f ≡ At i
-    go true Nothing q = let z : _≡_ {A = ℕ} 0 1 = cc in absurd (omega arith)
-    go true (At j) q = sym (naming-names r _ _ j _) ∙ ap (λ (y : Change). y .names) (is _ _ q) ∙ n
-    go false f q =
-        let none : Nothing ≡ At i = sym (own-names r _ _) ∙ ap (λ (y : Change). y .names) (is _ _ q) ∙ n in
+    go : (t : Bool) (s : Sought) →
+        cond t (searchedOf r (kindOf (r .kind)) (accountAt b (r .account)) s) (ownDecisionOf r (kindOf (r .kind)) (accountAt b (r .account))) ≡ Accepted x →
+        (f : Entry) × (s ≡ found i f)
+    go true missing q = let z : _≡_ {A = ℕ} 0 1 = cc in absurd (omega arith)
+    go true (found j f) q =
+        let at : At j ≡ At i = sym (naming-names r _ _ j _) ∙ ap (λ (y : Change). y .«named_at») (is _ _ q) ∙ n in
+        (f, (cc))
+    go false s q =
+        let none : Nothing ≡ At i = sym (own-names r _ _) ∙ ap (λ (y : Change). y .«named_at») (is _ _ q) ∙ n in
         let z : _≡_ {A = ℕ} 0 1 = cc in
         absurd (omega arith)
 
 pub post-refused : (b : Book) (r : Raw) (n : Refusal) → decisionOf b r ≡ Refused n →
-    postOf b r ≡ record { book = b; reply = replyOf (answer.Refused n) }
-unfolding postOf bookAfter answerOf
+    postOf b r ≡ record { book = b; reply = postingReplyOf (answer.Refused n) }
+unfolding postOf decidedBook answerOf
 post-refused b r n e = simp e
 
 -- the store of the named entry, which was read at place p
-pub rewrites-at : (es next : List Entry) (i p : ℕ) (d : Data) (w : Entry) → w ≡ withOf (getD es p noEntry) d → p ≡ i → set next i w ≡ rewritten es (At i) d next
+pub rewrites-at : (es next : List Entry) (i p : ℕ) (d : Data) (w : Entry) → w ≡ withOf (getD es p noEntry) d → p ≡ i → set next i w ≡ entriesRewritten es (At i) d next
 rewrites-at es next i p d w e q = rw (e, q) refl
 
 -- what the stores of an accepted entry make of the book
-pub post-accepted : (b : Book) (r : Raw) (x : Change) (o : Outcome) (a n : ℕ) (acc : Account) (new : Entry) (next : List Entry) (f : Found) (l : Serials) (ans : Answer) →
-    o ≡ decisionOf b r → o ≡ Accepted x → a ≡ slotOf (r .account) → n ≡ b .count + 1 → acc ≡ numberedOf (x .account) n →
-    new ≡ entryOf r (getD (b .accounts) a noAccount .newest) (x .«data») → x .names ≡ f →
-    next ≡ rewritten (b .entries) f (x .named) (set (b .entries) (b .count) new) → l ≡ afterOf (b .last) r → ans ≡ answerOf o n →
-    record { book = record { accounts = set (b .accounts) a acc; entries = next; count = n; last = l }; reply = replyOf ans } ≡ postOf b r
-unfolding postOf bookAfter storedOf
+pub post-accepted : (b : Book) (r : Raw) (x : Change) (o : Decision) (a n : ℕ) (acc : Account) (new : Entry) (next : List Entry) (f : Found) (l : Serials) (ans : PostingAnswer) →
+    o ≡ decisionOf b r → o ≡ Accepted x → a ≡ slotOf (r .account) → n ≡ b .count + 1 → acc ≡ withNewestOf (x .account) n →
+    new ≡ entryOf r (getD (b .accounts) a noAccount .newest) (x .«data») → x .«named_at» ≡ f →
+    next ≡ entriesRewritten (b .entries) f (x .«named_data») (set (b .entries) (b .count) new) → l ≡ afterOf (b .last) r → ans ≡ answerOf o n →
+    record { book = record { accounts = set (b .accounts) a acc; entries = next; count = n; last = l }; reply = postingReplyOf ans } ≡ postOf b r
+unfolding postOf decidedBook storedOf
 post-accepted b r x o a n acc new next f l ans decided accepted slot number numbered entry names rewrites after answered =
     rw (answered, after, rewrites, ← names, entry, numbered, number, slot, ← decided, accepted) refl
 
--- ---- lists of postings
+-- LISTS OF POSTINGS
 
 -- an entry adds one to the count at most
 post-count : (b : Book) (r : Raw) → postOf b r .book .count ≤ b .count + 1
-unfolding postOf bookAfter storedOf
+unfolding postOf decidedBook storedOf
 post-count b r = by (decisionOf b r)
   where
-    by : (o : Outcome) → bookAfter b r o .count ≤ b .count + 1
+    by : (o : Decision) → decidedBook b r o .count ≤ b .count + 1
     by (Refused n) = omega arith
     by (Accepted c) = omega arith
 

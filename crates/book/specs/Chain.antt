@@ -1,16 +1,13 @@
--- An account's chain, and the search for a named entry along it.
+-- An account's chain, and the search for an entry along it.
 use Prim.Native.Nat.{ℕ, zero, suc, _-_}
 use mathlib.Core.Bool.{Bool, cond, not, _&&_, _||_}
-use mathlib.Core.List.{List}
+use mathlib.Core.List.{List, [], _∷_}
 use lib.ListN.{getD}
 use lib.Dec.{eqb, ltb}
 use Rattle.entries.specs.Kinds.{namesOf}
-use Rattle.entries.specs.Entries.{noEntry, pointsAt}
-use Rattle.entries.specs.declared.raw.Raw.{Raw}
+use Rattle.entries.specs.Data.{noEntry}
 use Rattle.entries.specs.declared.kinds.Kind.{Kind}
 use Rattle.entries.specs.declared.data.Entry.{Entry}
-use Rattle.rules.specs.declared.changes.Found.{Found}
-use Rattle.rules.specs.declared.changes.Found.the-variants.{At, Nothing}
 use Rattle.book.specs.Fresh.{accountsMost, entriesMost}
 
 -- the place of an account; 0 where there is no such account
@@ -29,22 +26,29 @@ placeOf at = cond (endsOf at) 0 (at - 1)
 unfoldable pub startOf : Kind → ℕ → ℕ
 startOf k newest = cond (namesOf k) newest 0
 
--- a search goes on while links are left and the chain does not end
+-- a walk goes on while links are left and the chain does not end
 unfoldable pub walksOf : ℕ → ℕ → Bool
 walksOf at left = ltb 0 left && not (endsOf at)
 
--- the place of the entry that r names, along at most fuel links from the entry of a number
-unfoldable pub findIn : List Entry → Raw → ℕ → ℕ → Found
-findIn es r zero at = Nothing
-findIn es r (suc fuel) at =
-    let e = getD es (at - 1) noEntry in
-    cond (endsOf at) Nothing (cond (pointsAt r e) (At (at - 1)) (findIn es r fuel (e .next)))
+-- an entry, and its place
+pub record Link : Type 0 where
+  pub place : ℕ
+  pub entry : Entry
 
--- what a search ends in: the place of the named entry, and the entry
+abbrev pub linkAt : List Entry → ℕ → Link
+linkAt es i = record { place = i; entry = getD es i noEntry }
+
+-- the entries of a chain, newest first: at most fuel links from the entry of a number
+unfoldable pub walkOf : List Entry → ℕ → ℕ → List Link
+walkOf es zero at = []
+walkOf es (suc fuel) at = cond (endsOf at) [] (linkAt es (placeOf at) ∷ walkOf es fuel (getD es (placeOf at) noEntry .next))
+
+-- what a search ends in: the place of the entry, and the entry
 pub data Sought : Type 0 where
   missing : Sought
   found : ℕ → Entry → Sought
 
-unfoldable pub soughtIn : List Entry → Found → Sought
-soughtIn es Nothing = missing
-soughtIn es (At i) = found i (getD es i noEntry)
+-- the first of some entries that passes a test
+unfoldable pub soughtIn : (Entry → Bool) → List Link → Sought
+soughtIn test [] = missing
+soughtIn test (l ∷ ls) = cond (test (l .entry)) (found (l .place) (l .entry)) (soughtIn test ls)

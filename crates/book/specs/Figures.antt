@@ -1,23 +1,23 @@
--- Document 01's figures P1 to P12, about the rules themselves: one table, the outcome of each posting and what it should be.
+-- Document 01's figures P1 to P12, about the rules themselves: one table, the decision on each posting and what it should be.
 -- Each goes through the checks and the effect.
 use Prim.Native.Nat.{ℕ}
 use mathlib.Core.Path.{_≡_}
 use mathlib.Core.Bool.{cond}
 use mathlib.Core.List.{List, [], _∷_}
 use Rattle.entries.specs.Kinds.{kindOf, namesOf}
-use Rattle.entries.specs.Entries.{noEntry, entryOf, withOf}
+use Rattle.entries.specs.Data.{noEntry, entryOf, withOf}
 use Rattle.entries.specs.Refusals.{refusalNumber}
 use Rattle.entries.specs.declared.raw.Raw.{Raw}
 use Rattle.entries.specs.declared.data.Entry.{Entry}
 use Rattle.entries.specs.declared.data.Data.{Data}
 use Rattle.rules.specs.Accounts.{noAccount}
 use Rattle.rules.specs.declared.accounts.Account.{Account}
-use Rattle.rules.specs.declared.changes.Found.{Found}
-use Rattle.rules.specs.declared.changes.Found.the-variants.{At, Nothing}
-use Rattle.rules.specs.declared.changes.Outcome.{Outcome}
-use Rattle.rules.specs.declared.changes.Outcome.the-variants.{Refused, Accepted}
+use Rattle.changes.specs.declared.Found.{Found}
+use Rattle.changes.specs.declared.Found.the-variants.{At, Nothing}
+use Rattle.changes.specs.declared.Decision.{Decision}
+use Rattle.changes.specs.declared.Decision.the-variants.{Refused, Accepted}
 use Rattle.book.specs.Chain.{missing, found}
-use Rattle.book.specs.Refusals.{outcomeOf}
+use Rattle.book.specs.Refusals.{decisionBy}
 
 -- an entry of node 1 and account 1: serial, kind, day, amount, a, b. Where its kind names an entry, it names the one of serial 1.
 abbrev raw : ℕ → ℕ → ℕ → ℕ → ℕ → ℕ → Raw
@@ -42,31 +42,31 @@ pub record State : Type 0 where
   pub first : Entry
 
 -- after the first entry; nothing where it is refused
-abbrev begun : Raw → Outcome → State
+abbrev begun : Raw → Decision → State
 begun r (Refused n) = record { account = noAccount; first = noEntry }
 begun r (Accepted c) = record { account = c .account; first = entryOf r 0 (c .«data») }
 
 abbrev begins : ℕ → ℕ → ℕ → ℕ → ℕ → State
-begins kind day amount a b = let r = raw 1 kind day amount a b in begun r (outcomeOf r 0 0 noAccount missing)
+begins kind day amount a b = let r = raw 1 kind day amount a b in begun r (decisionBy r 0 0 noAccount missing)
 
 -- an entry after it: each is posted as the second of a book whose node's last serial is 1
-abbrev post : State → ℕ → ℕ → ℕ → ℕ → ℕ → Outcome
-post s kind day amount a b = outcomeOf (raw 2 kind day amount a b) 1 1 (s .account) (found 0 (s .first))
+abbrev post : State → ℕ → ℕ → ℕ → ℕ → ℕ → Decision
+post s kind day amount a b = decisionBy (raw 2 kind day amount a b) 1 1 (s .account) (found 0 (s .first))
 
 abbrev rewritten : Entry → Found → Data → Entry
 rewritten e Nothing d = e
 rewritten e (At i) d = withOf e d
 
-abbrev after : State → Outcome → State
+abbrev after : State → Decision → State
 after s (Refused n) = s
-after s (Accepted c) = record { account = c .account; first = rewritten (s .first) (c .names) (c .named) }
+after s (Accepted c) = record { account = c .account; first = rewritten (s .first) (c .«named_at») (c .«named_data») }
 
--- what an outcome shows: the refusal, or settled, paid out, retained and interest, and the account's arrears and credit then
+-- what a decision shows: the refusal, or settled, paid out, retained and interest, and the account's arrears and credit then
 pub data Shown : Type 0 where
   refused : ℕ → Shown
   posted : ℕ → ℕ → ℕ → ℕ → ℕ → ℕ → Shown
 
-abbrev shown : Outcome → Shown
+abbrev shown : Decision → Shown
 shown (Refused n) = refused (refusalNumber n)
 shown (Accepted c) =
     posted (c .amounts .settled .0) (c .amounts .«paid_out» .0) (c .amounts .retained .0) (c .amounts .interest .0) (c .account .arrears .0)
@@ -80,7 +80,7 @@ abbrev owing : State
 owing = after line (post line 3 100 80000 30 30)
 
 -- a customer who shares so many metres
-abbrev customer : State → ℕ → Outcome
+abbrev customer : State → ℕ → Decision
 customer s shared = post s 2 100 0 shared 1
 
 abbrev s1 : State
@@ -110,7 +110,7 @@ pub record Figure : Type 0 where
   pub should : Shown
 
 infix 20 _gives_
-abbrev _gives_ : Outcome → Shown → Figure
+abbrev _gives_ : Decision → Shown → Figure
 o gives s = record { is = shown o; should = s }
 
 abbrev pub figures : List Figure

@@ -1,7 +1,7 @@
 -- The fresh book.
 use Prim.Native.Nat.{ℕ}
 use lib.ListN.{replicate}
-use Rattle.entries.specs.Entries.{noEntry}
+use Rattle.entries.specs.Data.{noEntry}
 use Rattle.rules.specs.Accounts.{noAccount}
 use Rattle.book.specs.declared.Book.{Book}
 

@@ -5,23 +5,20 @@ use mathlib.Core.List.{List, [], _∷_}
 use lib.Dec.{leb, ltb}
 use Rattle.entries.specs.Kinds.{kindOf, sameOf, namesOf}
 use Rattle.entries.specs.Ranges.{between, inRangeOf}
-use Rattle.entries.specs.Refusals.{Row, _⇒_, firstOf}
+use Rattle.entries.specs.Refusals.{Row, _⇒_, checkRows, decidedOf}
 use Rattle.entries.specs.declared.raw.Raw.{Raw}
 use Rattle.entries.specs.declared.kinds.Kind.{Kind}
 use Rattle.entries.specs.declared.kinds.Kind.the-variants as kind
 use Rattle.entries.specs.declared.refusals.Refusal.the-variants as no
 use Rattle.entries.specs.declared.refusals.Check.{Check}
 use Rattle.entries.specs.declared.refusals.Check.the-variants as check
-use Rattle.rules.specs.Changes.{decidedOf, ownOutcomeOf, namingOutcomeOf}
+use Rattle.changes.specs.Changes.{ownDecisionOf, namingDecisionOf}
 use Rattle.rules.specs.declared.accounts.Account.{Account}
-use Rattle.rules.specs.declared.changes.Outcome.{Outcome}
-use Rattle.rules.specs.declared.changes.Outcome.the-variants.{Refused}
+use Rattle.changes.specs.declared.Decision.{Decision}
+use Rattle.changes.specs.declared.Decision.the-variants.{Refused}
 use Rattle.book.specs.Fresh.{accountsMost, entriesMost}
 use Rattle.book.specs.Chain.{Sought, missing, found}
-
--- 2099-12-31
-abbrev pub lastDay : ℕ
-lastDay = 36524
+use Rattle.measures.specs.Days.{lastDay}
 
 abbrev pub entryRows : Raw → Kind → ℕ → ℕ → List Row
 entryRows r k count last =
@@ -35,15 +32,15 @@ entryRows r k count last =
     []
 
 unfoldable pub checkEntryOf : Raw → Kind → ℕ → ℕ → Check
-checkEntryOf r k count last = firstOf check.Passed (entryRows r k count last)
+checkEntryOf r k count last = checkRows check.Passed (entryRows r k count last)
 
 -- of an entry that names another: where the chain yields no such entry, the posting stops with refusal 8
-unfoldable pub searchedOf : Raw → Kind → Account → Sought → Outcome
+unfoldable pub searchedOf : Raw → Kind → Account → Sought → Decision
 searchedOf r k acc missing = Refused no.NotOnChain
-searchedOf r k acc (found i e) = namingOutcomeOf r k acc i e
+searchedOf r k acc (found i e) = namingDecisionOf r k acc i e
 
 -- 1 to 7 first; then an entry goes on with its own rows, or with those about the entry that it names
-unfoldable pub outcomeOf : Raw → ℕ → ℕ → Account → Sought → Outcome
-outcomeOf r count last acc s =
+unfoldable pub decisionBy : Raw → ℕ → ℕ → Account → Sought → Decision
+decisionBy r count last acc s =
     let k = kindOf (r .kind) in
-    decidedOf (checkEntryOf r k count last) (cond (namesOf k) (searchedOf r k acc s) (ownOutcomeOf r k acc))
+    decidedOf (checkEntryOf r k count last) Refused (cond (namesOf k) (searchedOf r k acc s) (ownDecisionOf r k acc))

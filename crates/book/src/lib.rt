@@ -1,4 +1,8 @@
 // The contribution book.
+use changes::Decision;
+use changes::Found;
+use changes::naming_decision;
+use changes::own_decision;
 use entries::Check;
 use entries::Entry;
 use entries::Kind;
@@ -9,19 +13,17 @@ use entries::one_more;
 use entries::within;
 use measures::Day;
 use rules::Account;
-use rules::Answer;
-use rules::Found;
-use rules::Outcome;
-use rules::naming_outcome;
-use rules::own_outcome;
+use rules::PostingAnswer;
 ghost use mathlib.Core.Path.{_≡_};
 ghost use Prim.Native.Nat.{_-_};
+ghost use Rattle.entries.specs.Kinds.{kindOf};
+ghost use Rattle.entries.specs.Data.{pointsAt};
 ghost use Rattle.book.specs.Fresh.{freshBook};
 ghost use Rattle.book.specs.Serials.{lastOf, afterOf};
 ghost use Rattle.book.specs.Chain.{slotOf, endsOf, placeOf, startOf};
-ghost use Rattle.book.specs.Search.{searchOf, goesOnOf, pastOf, foundOf, soughtOf};
-ghost use Rattle.book.specs.Refusals.{checkEntryOf, outcomeOf};
-ghost use Rattle.book.specs.Posting.{resultOf, postOf};
+ghost use Rattle.book.specs.Search.{searchOf, goesOnOf, pastOf, foundOf, soughtAt};
+ghost use Rattle.book.specs.Refusals.{checkEntryOf, decisionBy};
+ghost use Rattle.book.specs.Posting.{postedReply, postOf};
 
 // The last serial of each node, 0 where it has none.
 pub struct Serials {
@@ -38,7 +40,7 @@ pub struct Book {
     pub count: u16,
 }
 
-// A search along an account's chain for the entry that another names.
+// A search along an account's chain.
 pub struct Search {
     // The number of the entry that it stands at.
     pub at: u16,
@@ -50,7 +52,7 @@ pub struct Search {
 // The next book beside the answer.
 pub struct Posted {
     pub book: Book,
-    pub answer: Answer,
+    pub answer: PostingAnswer,
 }
 
 impl Serials {
@@ -113,16 +115,22 @@ fn less_one(n: u16) -> u16
 }
 
 impl Search {
-    // Along the chain of an account whose newest entry has this number.
-    pub fn of(raw: Raw, newest: u16) -> Search
-        ensures { λ r. ⌜ r ≡ searchOf raw newest ⌝ }
+    // From the entry of a number.
+    pub fn along(at: u16) -> Search
+        ensures { λ r. ⌜ r ≡ searchOf at ⌝ }
     {
-        let at = start(Kind::of(raw.kind), newest);
         Search {
             at,
             left: Book::ENTRIES as u16,
             found: false,
         }
+    }
+
+    // For the entry that another names, on an account whose newest entry has this number.
+    pub fn of(raw: Raw, newest: u16) -> Search
+        ensures { λ r. ⌜ r ≡ searchOf (startOf (kindOf (raw .kind)) newest) ⌝ }
+    {
+        Search::along(start(Kind::of(raw.kind), newest))
     }
 
     pub fn goes_on(self) -> bool
@@ -141,12 +149,12 @@ impl Search {
         self.at as usize - 1
     }
 
-    // After a look at the entry that it stands at.
-    pub fn past(self, raw: Raw, entry: Entry) -> Search
-        ensures { λ r. ⌜ r ≡ pastOf self raw entry ⌝ }
+    // After a look at the entry that it stands at: whether that is the one, and its next index.
+    pub fn look(self, hit: bool, next: u16) -> Search
+        ensures { λ r. ⌜ r ≡ pastOf self hit next ⌝ }
     {
         let left = less_one(self.left);
-        if raw.points_at(entry) {
+        if hit {
             return Search {
                 at: self.at,
                 left,
@@ -154,13 +162,20 @@ impl Search {
             };
         }
         Search {
-            at: entry.next,
+            at: next,
             left,
             found: false,
         }
     }
 
-    pub fn lookup(self) -> Found
+    // After a look for the entry that another names.
+    pub fn past(self, raw: Raw, entry: Entry) -> Search
+        ensures { λ r. ⌜ r ≡ pastOf self (pointsAt raw entry) (entry .next) ⌝ }
+    {
+        self.look(raw.points_at(entry), entry.next)
+    }
+
+    fn lookup(self) -> Found
         ensures { λ r. ⌜ r ≡ foundOf self ⌝ }
     {
         if self.found {
@@ -175,41 +190,41 @@ fn check_entry(raw: Raw, kind: Kind, count: u16, last: u32) -> Check
     ensures { λ r. ⌜ r ≡ checkEntryOf raw kind count last ⌝ }
 {
     Check::Passed
-        .rule(kind.is(Kind::Unknown), Refusal::UnknownKind)
-        .rule(!within(raw.node as u32, 1, 2), Refusal::UnknownNode)
-        .rule(
+        .refuse_if(kind.is(Kind::Unknown), Refusal::UnknownKind)
+        .refuse_if(!within(raw.node as u32, 1, 2), Refusal::UnknownNode)
+        .refuse_if(
             !within(raw.account as u32, 1, Book::ACCOUNTS as u32),
             Refusal::UnknownAccount,
         )
-        .rule(Day::LAST < raw.day, Refusal::UnknownDay)
-        .rule(!raw.in_range(kind), Refusal::FieldOutOfRange)
-        .rule(raw.serial <= last, Refusal::SerialNotNew)
-        .rule(Book::ENTRIES <= count as usize, Refusal::BookFull)
+        .refuse_if(Day::LAST < raw.day, Refusal::UnknownDay)
+        .refuse_if(!raw.in_range(kind), Refusal::FieldOutOfRange)
+        .refuse_if(raw.serial <= last, Refusal::SerialNotNew)
+        .refuse_if(Book::ENTRIES <= count as usize, Refusal::BookFull)
 }
 
 // The refusal of an entry, or what it does, after the search for the entry that it names. `entry` is the one that the search stands at.
-pub fn outcome(
+pub fn decision(
     raw: Raw,
     count: u16,
     last: Serials,
     account: Account,
     search: Search,
     entry: Entry,
-) -> Outcome
-    ensures { λ r. ⌜ r ≡ outcomeOf raw count (lastOf last (raw .node)) account (soughtOf search entry) ⌝ }
+) -> Decision
+    ensures { λ r. ⌜ r ≡ decisionBy raw count (lastOf last (raw .node)) account (soughtAt (foundOf search) entry) ⌝ }
 {
     let kind = Kind::of(raw.kind);
     if let Check::Refused(refusal) = check_entry(raw, kind, count, last.of(raw.node)) {
-        return Outcome::Refused(refusal);
+        return Decision::Refused(refusal);
     }
     if !kind.names() {
-        return own_outcome(raw, kind, account);
+        return own_decision(raw, kind, account);
     }
     let lookup = search.lookup();
     let Found::At(i) = lookup else {
-        return Outcome::Refused(Refusal::NotOnChain);
+        return Decision::Refused(Refusal::NotOnChain);
     };
-    naming_outcome(raw, kind, account, i, entry)
+    naming_decision(raw, kind, account, i, entry)
 }
 
 impl Book {
@@ -236,7 +251,7 @@ impl Book {
 
     // Posts an entry.
     pub fn post(mut self, raw: Raw) -> Posted
-        ensures { λ r. ⌜ resultOf r ≡ postOf self raw ⌝ }
+        ensures { λ r. ⌜ postedReply r ≡ postOf self raw ⌝ }
     {
         let count = self.count;
         let last = self.last;
@@ -250,16 +265,16 @@ impl Book {
         }
         let place = search.place();
         let entry = self.entries[place];
-        let outcome = outcome(raw, count, last, account, search, entry);
+        let decision = decision(raw, count, last, account, search, entry);
         let number = one_more(count);
-        let answer = outcome.answer(number);
-        if let Outcome::Accepted(change) = outcome {
-            let names = change.names;
+        let answer = decision.answer(number);
+        if let Decision::Accepted(change) = decision {
+            let named_at = change.named_at;
             self.entries[count as usize] = change.entry(raw, account.newest);
-            self.accounts[a] = change.account.numbered(number);
+            self.accounts[a] = change.account.with_newest(number);
             self.count = number;
             self.last = last.after(raw);
-            if let Found::At(i) = names {
+            if let Found::At(i) = named_at {
                 self.entries[i] = change.rewritten(entry);
             }
         }

@@ -3,7 +3,7 @@ use book::Book;
 use console::Session;
 use console::answer;
 use text::BUFFER;
-use text::LONGEST;
+use text::LONGEST_READ;
 use text::put;
 
 // What lasts from piece to piece; of the line so far the length, at most one byte more than the longest.
@@ -42,7 +42,7 @@ fn take(start: Taken, piece: &[u8], line: &mut [u8], buffer: &mut [u8]) -> Taken
 
 fn main() {
     let mut piece = io::large_buffer();
-    let mut line = [0u8; LONGEST + 1];
+    let mut line = [0u8; LONGEST_READ + 1];
     let mut buffer = [0u8; BUFFER];
     let fresh = Book::fresh();
     let mut taken = Taken {

@@ -1,7 +1,7 @@
 -- What a turn of `carry_over` knows: facts of books and lists, with no memory in them.
 --     Turn b₀ xs rs    i entries are posted: the book, and the result list
---     start            before the first turn.        next     after one more.        accepted      at the end
---     refused          where the result list is too short
+--     start            before the first turn.        next     after one more
+--     laws             a turn's place and measure, and what the contract says where the result list is too short, and at the end
 use mathlib.Core.Path.{_≡_, refl, sym, _∙_, ap}
 use Prim.Native.Nat.{ℕ, _+_, _-_, _<_, _≤_}
 use native.Mathlib.Numerals.{add-one}
@@ -22,7 +22,7 @@ use Rattle.book.proofs.Book as B
 use Rattle.book.proofs.Book.Laws as B′
 use Rattle.carry.specs.declared.Carried.{Carried}
 use Rattle.carry.specs.declared.CarryAnswer.the-variants.{Refused, Accepted}
-use Rattle.carry.specs.Carry.{CarryResult, refusalsOf, shortOf, carryNumberOf, carryRefusalOf, carryBookOf, carryResultsOf, carriedOf, carryOf}
+use Rattle.carry.specs.Carry.{CarriedReply, refusalsOf, shortOf, carryNumberOf, carryRefusalOf, carryBookOf, carryResultsOf, carriedReply, carryOf}
 
 -- the book's machine value
 abbrev pub lowB : Book → Val
@@ -53,9 +53,9 @@ refusals-end b xs = rw drop-length
 
 -- what the contract says of the result r and the result list zs at the end
 abbrev pub Said : Book → List Raw → List ℕ → Carried → List ℕ → Type 0
-Said b xs rs r zs = (carriedOf r ≡ carryOf b xs rs) × (zs ≡ carryResultsOf b xs rs)
+Said b xs rs r zs = (carriedReply r ≡ carryOf b xs rs) × (zs ≡ carryResultsOf b xs rs)
 
-pub refused : (b : Book) (xs : List Raw) (rs : List ℕ) → shortOf xs rs ≡ true → Said b xs rs (record { book = b; answer = Refused ResultsShort }) rs
+refused : (b : Book) (xs : List Raw) (rs : List ℕ) → shortOf xs rs ≡ true → Said b xs rs (record { book = b; answer = Refused ResultsShort }) rs
 unfolding carryBookOf carryNumberOf carryRefusalOf carryResultsOf
 refused b xs rs e = (rw e refl, rw e refl)
 
@@ -74,16 +74,16 @@ module _ (b₀ : Book) (xs : List Raw) (rs : List ℕ) where
   abbrev pub start : Is B.the-row b₀ (lowB b₀ ∷ []) → Turn
   start ok = record { i = 0; book = b₀; zs = rs; le = omega arith; ok = ok; len = refl; posts = refl; said = refl; rest = refl }
 
+  -- fewer are left
+  less : (t : Turn) → t .i < length xs → length xs - (t .i + 1) < length xs - t .i
+  less t lt = omega arith
+
   module _ (t : Turn) (lt : t .i < length xs) (fit : length xs ≤ length rs) where
     abbrev x : Raw
     x = getD xs (t .i) noRaw
 
-    pub here : t .i < length (t .zs)
+    here : t .i < length (t .zs)
     here = omega (arith, t .len)
-
-    -- fewer are left
-    pub less : length xs - (t .i + 1) < length xs - t .i
-    less = omega arith
 
     module _ (b : Book) (n : ℕ) (eb : b ≡ postOf (t .book) x .book) (en : n ≡ postOf (t .book) x .reply .refusal) where
       pub said-next : take (t .i + 1) (set (t .zs) (t .i) n) ++ refusalsOf b (drop (t .i + 1) xs) ≡ refusalsOf b₀ xs
@@ -125,9 +125,25 @@ module _ (b₀ : Book) (xs : List Raw) (rs : List ℕ) where
     long : shortOf xs rs ≡ false
     long = le-ltb (length rs) (length xs) fit
 
-    pub accepted : Said b₀ xs rs (record { book = t .book; answer = Accepted }) (t .zs)
+    accepted : Said b₀ xs rs (record { book = t .book; answer = Accepted }) (t .zs)
     unfolding carryBookOf carryNumberOf carryRefusalOf carryResultsOf
     accepted = (rw long (ap after last-book), rw long last-results)
       where
-        after : Book → CarryResult
+        after : Book → CarriedReply
         after b = record { book = b; refusal = 0 }
+
+-- what the walk cites of these, in one record: where one of them fails, the walk, which takes long, is not checked
+pub record Laws (b : Book) (xs : List Raw) (rs : List ℕ) : Type 0 where
+  pub here : (t : Turn b xs rs) → t .i < length xs → length xs ≤ length rs → t .i < length (t .zs)
+  pub less : (t : Turn b xs rs) → t .i < length xs → length xs - (t .i + 1) < length xs - t .i
+  pub refused : shortOf xs rs ≡ true → Said b xs rs (record { book = b; answer = Refused ResultsShort }) rs
+  pub accepted : (t : Turn b xs rs) → length xs ≤ length rs → length xs ≤ t .i → Said b xs rs (record { book = t .book; answer = Accepted }) (t .zs)
+
+pub laws : (b : Book) (xs : List Raw) (rs : List ℕ) → Laws b xs rs
+laws b xs rs =
+    record {
+      here = λ t lt fit. here b xs rs t lt fit;
+      less = λ t lt. less b xs rs t lt;
+      refused = refused b xs rs;
+      accepted = λ t fit ge. accepted b xs rs t fit ge;
+    }

@@ -33,7 +33,7 @@ unfoldable pub carryResultsOf : Book → List Raw → List ℕ → List ℕ
 carryResultsOf b rs results = cond (shortOf rs results) results (refusalsOf b rs ++ drop (length rs) results)
 
 -- what a carry-over gives beside the result list, the answer in document 01's numbers
-pub record CarryResult : Type 0 where
+pub record CarriedReply : Type 0 where
   pub book : Book
   pub refusal : ℕ
 
@@ -41,12 +41,8 @@ unfoldable pub carryNumberOf : CarryAnswer → ℕ
 carryNumberOf (Refused n) = refusalNumber n
 carryNumberOf Accepted = 0
 
-abbrev pub carriedOf : Carried → CarryResult
-carriedOf c = record { book = c .book; refusal = carryNumberOf (c .answer) }
+abbrev pub carriedReply : Carried → CarriedReply
+carriedReply c = record { book = c .book; refusal = carryNumberOf (c .answer) }
 
-abbrev pub carryOf : Book → List Raw → List ℕ → CarryResult
+abbrev pub carryOf : Book → List Raw → List ℕ → CarriedReply
 carryOf b rs results = record { book = carryBookOf b rs results; refusal = carryRefusalOf rs results }
-
--- how many entries carry_first takes; not a number of document 01
-abbrev pub atOnce : ℕ
-atOnce = 64

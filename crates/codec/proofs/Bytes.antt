@@ -11,28 +11,28 @@ use lib.Seq.{drop-cons, drop-drop, getD-drop, take-nil, length-take-le}
 use lib.Dec.{eqb}
 use borrow.Author.Tests.{eq-eqb, ne-eqb, eqb-true}
 use Rattle.entries.proofs.Ranges.{both-true}
-use Rattle.codec.specs.Bytes.{le, un, cap, Bytes, eqList}
+use Rattle.codec.specs.Bytes.{toBytes, fromBytes, capacity, Bytes, eqList}
 
-pub length-le : (w x : ℕ) → length (le w x) ≡ w
-length-le zero x = refl
-length-le (suc w) x = ap suc (length-le w (x / 256))
+pub length-to-bytes : (w x : ℕ) → length (toBytes w x) ≡ w
+length-to-bytes zero x = refl
+length-to-bytes (suc w) x = ap suc (length-to-bytes w (x / 256))
 
-pub un-le : (w x : ℕ) → x < cap w → un (le w x) ≡ x
-un-le zero x h = omega arith
-un-le (suc w) x h = let i : un (le w (x / 256)) ≡ x / 256 = un-le w (x / 256) (omega arith) in omega arith
+pub from-to-bytes : (w x : ℕ) → x < capacity w → fromBytes (toBytes w x) ≡ x
+from-to-bytes zero x h = omega arith
+from-to-bytes (suc w) x h = let i : fromBytes (toBytes w (x / 256)) ≡ x / 256 = from-to-bytes w (x / 256) (omega arith) in omega arith
 
-pub le-un : (bs : List ℕ) → Bytes bs → le (length bs) (un bs) ≡ bs
-le-un [] h = refl
-le-un (b ∷ bs) h =
-    let lo : (b + 256 * un bs) % 256 ≡ b = omega arith in
-    let hi : (b + 256 * un bs) / 256 ≡ un bs = omega arith in
-    rw (lo, hi, le-un bs (h .1))
+pub to-from-bytes : (bs : List ℕ) → Bytes bs → toBytes (length bs) (fromBytes bs) ≡ bs
+to-from-bytes [] h = refl
+to-from-bytes (b ∷ bs) h =
+    let lo : (b + 256 * fromBytes bs) % 256 ≡ b = omega arith in
+    let hi : (b + 256 * fromBytes bs) / 256 ≡ fromBytes bs = omega arith in
+    rw (lo, hi, to-from-bytes bs (h .1))
 
 -- the number of w bytes, or of fewer where the list ends
-pub un-lt : (w : ℕ) (l : List ℕ) → Bytes l → un (take w l) < cap w
-un-lt zero l h = omega arith
-un-lt (suc w) [] h = let i = un-lt w [] h in omega arith
-un-lt (suc w) (b ∷ l) h = let i = un-lt w l (h .1) in omega arith
+pub from-bytes-lt : (w : ℕ) (l : List ℕ) → Bytes l → fromBytes (take w l) < capacity w
+from-bytes-lt zero l h = omega arith
+from-bytes-lt (suc w) [] h = let i = from-bytes-lt w [] h in omega arith
+from-bytes-lt (suc w) (b ∷ l) h = let i = from-bytes-lt w l (h .1) in omega arith
 
 pub bytes-take : (n : ℕ) (l : List ℕ) → Bytes l → Bytes (take n l)
 bytes-take zero l h = tt
@@ -45,36 +45,36 @@ bytes-drop (suc n) [] h = tt
 bytes-drop (suc n) (b ∷ l) h = bytes-drop n l (h .1)
 
 -- reading a field's bytes and writing them again gives them back
-pub le-un-take : (w : ℕ) (l : List ℕ) → w ≤ length l → Bytes l → le w (un (take w l)) ≡ take w l
-le-un-take w l k h = rw (length-take-le w l k) at (le-un (take w l) (bytes-take w l h))
+pub to-from-bytes-take : (w : ℕ) (l : List ℕ) → w ≤ length l → Bytes l → toBytes w (fromBytes (take w l)) ≡ take w l
+to-from-bytes-take w l k h = rw (length-take-le w l k) at (to-from-bytes (take w l) (bytes-take w l h))
 
 -- the number at a place is the byte there and 256 times the number of the bytes after it
-un-head : (n : ℕ) (l : List ℕ) → un (take (suc n) l) ≡ getD l 0 0 + 256 * un (take n (drop 1 l))
-un-head n [] = rw (take-nil n) refl
-un-head n (b ∷ l) = refl
+from-bytes-head : (n : ℕ) (l : List ℕ) → fromBytes (take (suc n) l) ≡ getD l 0 0 + 256 * fromBytes (take n (drop 1 l))
+from-bytes-head n [] = rw (take-nil n) refl
+from-bytes-head n (b ∷ l) = refl
 
-un-next : (l : List ℕ) (at next n : ℕ) → next ≡ at + 1 →
-    un (take (suc n) (drop at l)) ≡ getD l at 0 + 256 * un (take n (drop next l))
-un-next l at next n e =
-    rw (e, ← drop-drop 1 at l, ← add-zero at, ← getD-drop at l 0 0, add-zero at) (un-head n (drop at l))
+from-bytes-next : (l : List ℕ) (at next n : ℕ) → next ≡ at + 1 →
+    fromBytes (take (suc n) (drop at l)) ≡ getD l at 0 + 256 * fromBytes (take n (drop next l))
+from-bytes-next l at next n e =
+    rw (e, ← drop-drop 1 at l, ← add-zero at, ← getD-drop at l 0 0, add-zero at) (from-bytes-head n (drop at l))
 
-pub un-one : (l : List ℕ) (at : ℕ) → un (take 1 (drop at l)) ≡ getD l at 0
-un-one l at = omega (arith, un-next l at (at + 1) 0 refl)
+pub from-bytes-one : (l : List ℕ) (at : ℕ) → fromBytes (take 1 (drop at l)) ≡ getD l at 0
+from-bytes-one l at = omega (arith, from-bytes-next l at (at + 1) 0 refl)
 
-pub un-two : (l : List ℕ) (at : ℕ) → un (take 2 (drop at l)) ≡ getD l at 0 + 256 * getD l (at + 1) 0
-un-two l at = omega (arith, un-next l at (at + 1) 1 refl, un-next l (at + 1) (at + 2) 0 (omega arith))
+pub from-bytes-two : (l : List ℕ) (at : ℕ) → fromBytes (take 2 (drop at l)) ≡ getD l at 0 + 256 * getD l (at + 1) 0
+from-bytes-two l at = omega (arith, from-bytes-next l at (at + 1) 1 refl, from-bytes-next l (at + 1) (at + 2) 0 (omega arith))
 
-pub un-four : (l : List ℕ) (at : ℕ) → un (take 4 (drop at l)) ≡ un (take 2 (drop at l)) + 65536 * un (take 2 (drop (at + 2) l))
-un-four l at =
-    omega (arith, un-two l at, un-next l at (at + 1) 3 refl, un-next l (at + 1) (at + 2) 2 (omega arith))
+pub from-bytes-four : (l : List ℕ) (at : ℕ) → fromBytes (take 4 (drop at l)) ≡ fromBytes (take 2 (drop at l)) + 65536 * fromBytes (take 2 (drop (at + 2) l))
+from-bytes-four l at =
+    omega (arith, from-bytes-two l at, from-bytes-next l at (at + 1) 3 refl, from-bytes-next l (at + 1) (at + 2) 2 (omega arith))
 
 -- the same bytes, 0 past the end, are the same number
-pub un-same : (w : ℕ) (a b : List ℕ) → ((i : ℕ) → i < w → getD a i 0 ≡ getD b i 0) → un (take w a) ≡ un (take w b)
-un-same zero a b h = refl
-un-same (suc w) a b h =
-    rw (un-head w a, un-head w b, h 0 (omega arith), un-same w (drop 1 a) (drop 1 b) (λ i k. rw (getD-drop 1 a i 0, getD-drop 1 b i 0) (h (1 + i) (omega arith))))
+pub from-bytes-same : (w : ℕ) (a b : List ℕ) → ((i : ℕ) → i < w → getD a i 0 ≡ getD b i 0) → fromBytes (take w a) ≡ fromBytes (take w b)
+from-bytes-same zero a b h = refl
+from-bytes-same (suc w) a b h =
+    rw (from-bytes-head w a, from-bytes-head w b, h 0 (omega arith), from-bytes-same w (drop 1 a) (drop 1 b) (λ i k. rw (getD-drop 1 a i 0, getD-drop 1 b i 0) (h (1 + i) (omega arith))))
 
--- ---- sameness
+-- SAMENESS
 
 pub eqList-eq : (a b : List ℕ) → eqList a b ≡ true → a ≡ b
 eqList-eq [] [] h = refl

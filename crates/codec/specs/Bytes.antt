@@ -5,19 +5,19 @@ use mathlib.Core.List.{List, [], _∷_}
 use lib.Dec.{eqb}
 
 -- the w low bytes of x
-abbrev pub le : ℕ → ℕ → List ℕ
-le zero x = []
-le (suc w) x = x % 256 ∷ le w (x / 256)
+abbrev pub toBytes : ℕ → ℕ → List ℕ
+toBytes zero x = []
+toBytes (suc w) x = x % 256 ∷ toBytes w (x / 256)
 
--- the number that bytes are
-abbrev pub un : List ℕ → ℕ
-un [] = 0
-un (b ∷ bs) = b + 256 * un bs
+-- the number that bytes stand for
+abbrev pub fromBytes : List ℕ → ℕ
+fromBytes [] = 0
+fromBytes (b ∷ bs) = b + 256 * fromBytes bs
 
--- one more than the largest number of w bytes
-abbrev pub cap : ℕ → ℕ
-cap zero = 1
-cap (suc w) = 256 * cap w
+-- how many numbers w bytes have
+abbrev pub capacity : ℕ → ℕ
+capacity zero = 1
+capacity (suc w) = 256 * capacity w
 
 -- every element is a byte
 abbrev pub Bytes : List ℕ → Type 0

@@ -28,8 +28,8 @@ fieldsOf r =
     r .raw .«named_node» ∷
     []
 
-abbrev pub recordOf : List ℕ → Record
-recordOf v =
+abbrev pub fieldsRecord : List ℕ → Record
+fieldsRecord v =
     record {
       raw =
           record {
@@ -48,15 +48,15 @@ recordOf v =
     }
 
 -- every field fits its bytes
-abbrev pub InRange : Record → Type 0
-InRange r = Fit layout (fieldsOf r)
+abbrev pub FieldsFit : Record → Type 0
+FieldsFit r = Fit layout (fieldsOf r)
 
 unfoldable pub encodeRecord : Record → List ℕ
 encodeRecord r = pack layout (fieldsOf r)
 
 -- the record that stands at the start of bytes
 unfoldable pub decodeRecord : List ℕ → Record
-decodeRecord l = recordOf (unpack layout l)
+decodeRecord l = fieldsRecord (unpack layout l)
 
 -- record i stands at byte 24 × i; record 0 is the header
 abbrev pub recordIn : List ℕ → ℕ → Record
@@ -71,6 +71,6 @@ abbrev pub decodeAll : ℕ → List ℕ → List Record
 decodeAll zero l = []
 decodeAll (suc n) l = decodeRecord l ∷ decodeAll n (drop recordBytes l)
 
-abbrev pub AllInRange : List Record → Type 0
-AllInRange [] = Unit {0}
-AllInRange (r ∷ rs) = InRange r × AllInRange rs
+abbrev pub AllFieldsFit : List Record → Type 0
+AllFieldsFit [] = Unit {0}
+AllFieldsFit (r ∷ rs) = FieldsFit r × AllFieldsFit rs

@@ -6,7 +6,7 @@ use entries::both;
 ghost use mathlib.Core.Path.{_≡_};
 ghost use Prim.Native.Nat.{_+_, _*_, _≤_};
 ghost use lib.ListN.{length, getD, take, drop};
-ghost use Rattle.codec.specs.Bytes.{un, eqList};
+ghost use Rattle.codec.specs.Bytes.{fromBytes, eqList};
 ghost use Rattle.codec.specs.Records.{recordBytes, encodeRecord, decodeRecord, recordIn};
 ghost use Rattle.codec.specs.Headers.{headerOf, countIn, fitsOf, checkOf};
 
@@ -14,7 +14,7 @@ ghost use Rattle.codec.specs.Headers.{headerOf, countIn, fitsOf, checkOf
 pub const RECORD: usize = 24;
 
 // The bytes of the longest image: the header and 1,024 records.
-pub const LONGEST: usize = 24600;
+pub const LONGEST_IMAGE: usize = 24600;
 
 // An entry as it is given, and its next index.
 pub struct Record {
@@ -39,14 +39,14 @@ fn joined(low: u8, high: u8) -> u16
 // The number in two bytes from a place on, and in four.
 fn two(b: &[u8], at: usize) -> u16
     requires { ⌜ at + 2 ≤ length (now b) ⌝ }
-    ensures { λ r. ⌜ r ≡ un (take 2 (drop at (now (b .entry)))) ⌝ }
+    ensures { λ r. ⌜ r ≡ fromBytes (take 2 (drop at (now (b .entry)))) ⌝ }
 {
     joined(b[at], b[at + 1])
 }
 
 fn four(b: &[u8], at: usize) -> u32
     requires { ⌜ at + 4 ≤ length (now b) ⌝ }
-    ensures { λ r. ⌜ r ≡ un (take 4 (drop at (now (b .entry)))) ⌝ }
+    ensures { λ r. ⌜ r ≡ fromBytes (take 4 (drop at (now (b .entry)))) ⌝ }
 {
     two(b, at) as u32 + 65536 * two(b, at + 2) as u32
 }
@@ -75,7 +75,7 @@ fn decode(b: &[u8]) -> Record
 }
 
 // The count in the header.
-pub fn count_in(image: &[u8]) -> u16
+fn count_in(image: &[u8]) -> u16
     ensures { λ r. ⌜ r ≡ countIn (now (image .entry)) ⌝ }
 {
     joined(byte_at(image, 4), byte_at(image, 5))
@@ -183,7 +183,7 @@ fn same(a: &[u8], b: &[u8]) -> bool
 fn fits(n: usize) -> bool
     ensures { λ r. ⌜ r ≡ fitsOf n ⌝ }
 {
-    both(both(RECORD <= n, n <= LONGEST), n % RECORD == 0)
+    both(both(RECORD <= n, n <= LONGEST_IMAGE), n % RECORD == 0)
 }
 
 // 17 to 19: the length, the header, the count.

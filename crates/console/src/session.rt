@@ -1,14 +1,14 @@
 // The calls: each takes the book that it goes to, the session and its line's numbers, and gives the next ones and the numbers of its answer.
 use book::Book;
-use carry::AT_ONCE;
-use carry::carry_first;
+use carry_lent::AT_ONCE;
+use carry_lent::carry_first;
 use entries::Raw;
-use image::LoadAnswer;
-use image::Saved;
-use image::load;
-use image::save;
+use loads::LoadAnswer;
+use loads::load;
 use queries::contribution_query;
 use queries::statement;
+use saves::SaveAnswer;
+use saves::save;
 use text::PLACES;
 use text::at;
 use text::first;
@@ -124,8 +124,8 @@ fn query(book: Book, account: u16, node: u8, serial: u32, answer: &mut [u64]) ->
 fn save_into(book: Book, size: u64, buffer: &mut [u8], answer: &mut [u64]) -> usize {
     let n = first(buffer, size as usize);
     match save(book, &mut buffer[..n]) {
-        Saved::Refused(refusal) => tell(answer, &[refusal.number() as u64, 0]),
-        Saved::Length(bytes) => tell(answer, &[0, bytes as u64]),
+        SaveAnswer::Refused(refusal) => tell(answer, &[refusal.number() as u64, 0]),
+        SaveAnswer::Length(bytes) => tell(answer, &[0, bytes as u64]),
     }
 }
 

@@ -1,4 +1,5 @@
 pub mod Kinds
 pub mod Ranges
 pub mod Refusals
-pub mod Entries
+pub mod Data
+pub mod Order

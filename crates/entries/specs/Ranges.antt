@@ -10,6 +10,10 @@ use Rattle.entries.specs.declared.raw.Raw.{Raw}
 abbrev pub amountMost : ℕ
 amountMost = 100000000
 
+-- a deposit's rate, in hundredths of a percent a year
+abbrev pub rateMost : ℕ
+rateMost = 2000
+
 abbrev pub row : ℕ → ℕ → Bool → ℕ → ℕ → Bool → ℕ → Limits
 row amountLow amountHigh named aLow aHigh phases bHigh =
     record {
@@ -29,7 +33,7 @@ limitsOf kind.Contribution a = row 1 amountMost false 1 65535 true 0
 limitsOf kind.AddedCustomer a = row 0 0 true 1 65535 true 0
 limitsOf kind.Bill a = row 1 amountMost false 1 62 false a
 limitsOf kind.Payment a = row 1 amountMost false 0 0 false 0
-limitsOf kind.Deposit a = row 1 amountMost false 0 2000 false 0
+limitsOf kind.Deposit a = row 1 amountMost false 0 rateMost false 0
 limitsOf kind.DepositReturn a = row 0 0 false 0 0 false 0
 limitsOf kind.Expiry a = row 0 0 true 0 0 false 0
 limitsOf kind.Correction a = row 0 amountMost true 0 0 false 0

@@ -32,14 +32,14 @@ refusalNumber no.NextIndex = 20
 refusalNumber no.BufferShort = 21
 refusalNumber no.ResultsShort = 22
 
-abbrev pub first : Check → Refusal → Check
-first Passed n = Refused n
-first (Refused m) n = Refused m
+abbrev pub elseRefused : Check → Refusal → Check
+elseRefused Passed n = Refused n
+elseRefused (Refused m) n = Refused m
 
 -- after the checks so far, a rule that is broken or not
-unfoldable pub ruleOf : Check → Bool → Refusal → Check
-ruleOf c true n = first c n
-ruleOf c false n = c
+unfoldable pub refuseIf : Check → Bool → Refusal → Check
+refuseIf c true n = elseRefused c n
+refuseIf c false n = c
 
 -- a row of a table of checks: where the test is true, the refusal
 pub record Row : Type 0 where
@@ -51,6 +51,11 @@ abbrev pub _⇒_ : Bool → Refusal → Row
 b ⇒ n = record { broken = b; refusal = n }
 
 -- the refusal of the first broken rule of a table
-abbrev pub firstOf : Check → List Row → Check
-firstOf c [] = c
-firstOf c (r ∷ rs) = firstOf (ruleOf c (r .broken) (r .refusal)) rs
+abbrev pub checkRows : Check → List Row → Check
+checkRows c [] = c
+checkRows c (r ∷ rs) = checkRows (refuseIf c (r .broken) (r .refusal)) rs
+
+-- after a check: what a refusal gives, or what follows where nothing is refused
+unfoldable pub decidedOf : {A : Type 0} → Check → (Refusal → A) → A → A
+decidedOf (Refused n) refused passed = refused n
+decidedOf Passed refused passed = passed

@@ -1,10 +1,11 @@
 // An entry as the book keeps it: common fields, and the data of its kind.
 use crate::kinds::Kind;
+use crate::kinds::both;
 use measures::Cents;
 use measures::Day;
 use measures::Metres;
 ghost use mathlib.Core.Path.{_≡_};
-ghost use Rattle.entries.specs.Entries.{noEntry, otherOf, correctableOf, contributionOf, oneMore, namedOf, refundedOf, expiredOf, restatedOf, withOf};
+ghost use Rattle.entries.specs.Data.{noEntry, otherParticulars, correctableParticulars, contributionParticulars, oneMore, particularsOf, refundedOf, expiredOf, restatedOf, withOf, carries};
 
 // What was posted and what became of it, by kind. The case is the kind.
 pub enum Data {
@@ -67,7 +68,7 @@ pub struct Entry {
 }
 
 // What the rules read of a named entry. A field that its kind does not have is zero or false.
-pub struct Named {
+pub struct Particulars {
     pub kind: Kind,
     pub amount: Cents,
     pub built: Metres,
@@ -79,19 +80,19 @@ pub struct Named {
     pub corrected: bool,
 }
 
-impl Named {
+impl Particulars {
     // What the rules read of an entry that they read no figure of.
-    fn other(kind: Kind) -> Named
-        ensures { λ r. ⌜ r ≡ otherOf kind ⌝ }
+    fn other(kind: Kind) -> Particulars
+        ensures { λ r. ⌜ r ≡ otherParticulars kind ⌝ }
     {
-        Named::correctable(kind, Cents(0), false)
+        Particulars::correctable(kind, Cents(0), false)
     }
 
     // What the rules read of a bill or a payment.
-    fn correctable(kind: Kind, standing: Cents, corrected: bool) -> Named
-        ensures { λ r. ⌜ r ≡ correctableOf kind standing corrected ⌝ }
+    fn correctable(kind: Kind, standing: Cents, corrected: bool) -> Particulars
+        ensures { λ r. ⌜ r ≡ correctableParticulars kind standing corrected ⌝ }
     {
-        Named {
+        Particulars {
             kind,
             amount: Cents(0),
             built: Metres(0),
@@ -112,10 +113,10 @@ impl Named {
         held: Cents,
         added: u16,
         closed: bool,
-    ) -> Named
-        ensures { λ r. ⌜ r ≡ contributionOf amount built phases held added closed ⌝ }
+    ) -> Particulars
+        ensures { λ r. ⌜ r ≡ contributionParticulars amount built phases held added closed ⌝ }
     {
-        Named {
+        Particulars {
             kind: Kind::Contribution,
             amount,
             built,
@@ -137,8 +138,8 @@ pub fn one_more(n: u16) -> u16
 }
 
 impl Data {
-    pub fn named(self) -> Named
-        ensures { λ r. ⌜ r ≡ namedOf self ⌝ }
+    pub fn particulars(self) -> Particulars
+        ensures { λ r. ⌜ r ≡ particularsOf self ⌝ }
     {
         match self {
             Data::Contribution {
@@ -149,23 +150,23 @@ impl Data {
                 added,
                 closed,
                 ..
-            } => Named::contribution(amount, built, phases, held, added, closed),
+            } => Particulars::contribution(amount, built, phases, held, added, closed),
             Data::Bill {
                 standing,
                 corrected,
                 ..
-            } => Named::correctable(Kind::Bill, standing, corrected),
+            } => Particulars::correctable(Kind::Bill, standing, corrected),
             Data::Payment {
                 standing,
                 corrected,
                 ..
-            } => Named::correctable(Kind::Payment, standing, corrected),
-            Data::AddedCustomer { .. } => Named::other(Kind::AddedCustomer),
-            Data::Deposit { .. } => Named::other(Kind::Deposit),
-            Data::DepositReturn => Named::other(Kind::DepositReturn),
-            Data::Expiry { .. } => Named::other(Kind::Expiry),
-            Data::Correction { .. } => Named::other(Kind::Correction),
-            Data::Unused => Named::other(Kind::Unknown),
+            } => Particulars::correctable(Kind::Payment, standing, corrected),
+            Data::AddedCustomer { .. } => Particulars::other(Kind::AddedCustomer),
+            Data::Deposit { .. } => Particulars::other(Kind::Deposit),
+            Data::DepositReturn => Particulars::other(Kind::DepositReturn),
+            Data::Expiry { .. } => Particulars::other(Kind::Expiry),
+            Data::Correction { .. } => Particulars::other(Kind::Correction),
+            Data::Unused => Particulars::other(Kind::Unknown),
         }
     }
 
@@ -278,9 +279,16 @@ impl Entry {
         }
     }
 
+    // Whether it carries a pair of node and serial.
+    pub fn carries(self, node: u8, serial: u32) -> bool
+        ensures { λ r. ⌜ r ≡ carries node serial self ⌝ }
+    {
+        both(self.node == node, self.serial == serial)
+    }
+
     // The entry with other data of its kind.
-    pub fn with(self, what: Data) -> Entry
-        ensures { λ r. ⌜ r ≡ withOf self what ⌝ }
+    pub fn with(self, data: Data) -> Entry
+        ensures { λ r. ⌜ r ≡ withOf self «data» ⌝ }
     {
         let day = self.day;
         Entry {
@@ -289,7 +297,7 @@ impl Entry {
             day,
             serial: self.serial,
             next: self.next,
-            data: what,
+            data,
         }
     }
 }

@@ -69,6 +69,8 @@ impl Limits {
 impl Kind {
     pub const AMOUNT_MOST: u32 = 100000000;
 
+    pub const RATE_MOST: u16 = 2000;
+
     // The kind of a number.
     pub fn of(number: u8) -> Kind
         ensures { λ r. ⌜ r ≡ kindOf number ⌝ }
@@ -137,7 +139,7 @@ impl Kind {
             Kind::AddedCustomer => Limits::row(0, 0, true, 1, 65535, true, 0),
             Kind::Bill => Limits::row(1, Kind::AMOUNT_MOST, false, 1, 62, false, a),
             Kind::Payment => Limits::row(1, Kind::AMOUNT_MOST, false, 0, 0, false, 0),
-            Kind::Deposit => Limits::row(1, Kind::AMOUNT_MOST, false, 0, 2000, false, 0),
+            Kind::Deposit => Limits::row(1, Kind::AMOUNT_MOST, false, 0, Kind::RATE_MOST, false, 0),
             Kind::DepositReturn => Limits::row(0, 0, false, 0, 0, false, 0),
             Kind::Expiry => Limits::row(0, 0, true, 0, 0, false, 0),
             Kind::Correction => Limits::row(0, Kind::AMOUNT_MOST, true, 0, 0, false, 0),

@@ -6,7 +6,7 @@ mod refusals;
 
 pub use data::Data;
 pub use data::Entry;
-pub use data::Named;
+pub use data::Particulars;
 pub use data::one_more;
 pub use kinds::Kind;
 pub use kinds::Limits;

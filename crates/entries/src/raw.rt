@@ -10,7 +10,7 @@ ghost use mathlib.Core.Path.{_≡_};
 ghost use Rattle.measures.specs.Cents.{cents};
 ghost use Rattle.measures.specs.Days.{day};
 ghost use Rattle.entries.specs.Ranges.{between, namedFits, bFits, inRangeOf};
-ghost use Rattle.entries.specs.Entries.{entryOf, pointsAt};
+ghost use Rattle.entries.specs.Data.{entryOf, pointsAt};
 
 pub struct Raw {
     pub kind: u8,
@@ -77,15 +77,12 @@ impl Raw {
     pub fn points_at(self, entry: Entry) -> bool
         ensures { λ r. ⌜ r ≡ pointsAt self entry ⌝ }
     {
-        both(
-            entry.node == self.named_node,
-            entry.serial == self.named_serial,
-        )
+        entry.carries(self.named_node, self.named_serial)
     }
 
     // The entry as the book keeps it.
-    pub fn entry(self, next: u16, what: Data) -> Entry
-        ensures { λ r. ⌜ r ≡ entryOf self next what ⌝ }
+    pub fn entry(self, next: u16, data: Data) -> Entry
+        ensures { λ r. ⌜ r ≡ entryOf self next «data» ⌝ }
     {
         Entry {
             node: self.node,
@@ -93,7 +90,7 @@ impl Raw {
             day: Day(self.day),
             serial: self.serial,
             next,
-            data: what,
+            data,
         }
     }
 }

@@ -1,6 +1,6 @@
 // The refusals of every call, and a check that stops at the first.
 ghost use mathlib.Core.Path.{_≡_};
-ghost use Rattle.entries.specs.Refusals.{refusalNumber, ruleOf};
+ghost use Rattle.entries.specs.Refusals.{refusalNumber, refuseIf};
 
 // One case for each of document 01's numbers, in its order.
 pub enum Refusal {
@@ -68,8 +68,8 @@ impl Refusal {
 
 impl Check {
     // The next rule: its refusal stands where the rule is broken and none before it was.
-    pub fn rule(self, broken: bool, refusal: Refusal) -> Check
-        ensures { λ r. ⌜ r ≡ ruleOf self broken refusal ⌝ }
+    pub fn refuse_if(self, broken: bool, refusal: Refusal) -> Check
+        ensures { λ r. ⌜ r ≡ refuseIf self broken refusal ⌝ }
     {
         if let Check::Passed = self {
             if broken {

@@ -1,17 +1,16 @@
--- A carry-over keeps book and history in agreement, and answers as the history says.
+-- Postings in turn, and a carry-over, keep book and history in agreement, and answer as the history says.
 use Prim.Native.Nat.{ℕ, zero, suc}
 use mathlib.Core.Path.{_≡_, refl, ap, ap₂, _∙_}
-use mathlib.Core.Bool.{Bool, true, false, cond}
 use mathlib.Core.List.{List, [], _∷_}
 use Rattle.entries.specs.declared.raw.Raw.{Raw}
-use Rattle.rules.specs.declared.answers.Reply.{Reply}
+use Rattle.rules.specs.declared.answers.PostingReply.{PostingReply}
 use Rattle.book.specs.Posting.{postOf, postsOf}
 use Rattle.book.specs.declared.Book.{Book}
-use Rattle.history.specs.History.{History, Amounts, judge, offer, offers, repliedBy, repliedOf, verdicts, tooShort}
+use Rattle.carry.specs.Carry.{refusalsOf, carryBookOf, carryResultsOf}
+use Rattle.history.specs.History.{History, Amounts, judge, offers, repliedBy, repliedOf, verdicts, tooShort, carryOffers, carryVerdicts}
 use Rattle.history.specs.Agreement.{Kept}
-use Rattle.carry.specs.Carry.{refusalsOf, carryRefusalOf, carryBookOf, carryResultsOf}
-use Rattle.history.specs.Carry.{CarryAgreement}
-use Rattle.history.proofs.Agree.{agreement}
+use Rattle.history.proofs.Tests.{either}
+use Rattle.history.proofs.Agreement.{agreement}
 
 number-of : (n k : ℕ) (x : Amounts) → repliedBy n k x .refusal ≡ n
 number-of zero k x = refl
@@ -22,29 +21,20 @@ unfolding repliedOf
 replied-number h r = number-of (judge h r) _ _
 
 -- the refusal number of a posting is the history's
-pub number-same : (b : Book) (h : History) → Kept b h → (r : Raw) → postOf b r .reply .refusal ≡ judge h r
-number-same b h w r = ap (λ (x : Reply). x .refusal) (agreement .replied b h w r) ∙ replied-number h r
+pub number-same : {b : Book} {h : History} → Kept b h → (r : Raw) → postOf b r .reply .refusal ≡ judge h r
+number-same {b} {h} w r = ap (λ (x : PostingReply). x .refusal) (agreement .replied b h w r) ∙ replied-number h r
 
-pub keeps-all : (b : Book) (h : History) → Kept b h → (rs : List Raw) → Kept (postsOf b rs) (offers h rs)
-unfolding postsOf
-keeps-all b h w [] = w
-keeps-all b h w (r ∷ rs) = keeps-all (postOf b r .book) (offer h r) (agreement .posted b h w r) rs
+pub posts-same : {b : Book} {h : History} → Kept b h → (rs : List Raw) → Kept (postsOf b rs) (offers h rs) × (refusalsOf b rs ≡ verdicts h rs)
+unfolding postsOf refusalsOf
+posts-same w [] = (w, refl)
+posts-same {b} {h} w (r ∷ rs) =
+    let rest = posts-same (agreement .posted b h w r) rs in (rest .0, ap₂ (λ n ns. n ∷ ns) (number-same w r) (rest .1))
 
-pub numbers-same : (b : Book) (h : History) → Kept b h → (rs : List Raw) → refusalsOf b rs ≡ verdicts h rs
-unfolding refusalsOf
-numbers-same b h w [] = refl
-numbers-same b h w (r ∷ rs) =
-    ap₂ (λ n ns. n ∷ ns) (number-same b h w r) (numbers-same (postOf b r .book) (offer h r) (agreement .posted b h w r) rs)
+module _ {b : Book} {h : History} (w : Kept b h) (rs : List Raw) (results : List ℕ) where
+  pub results-same : carryResultsOf b rs results ≡ carryVerdicts h rs results
+  unfolding carryResultsOf
+  results-same = rw (posts-same w rs .1) refl
 
-either : {b b′ : Book} {h h′ : History} (t : Bool) → Kept b h → Kept b′ h′ → Kept (cond t b b′) (cond t h h′)
-either true p q = p
-either false p q = q
-
-pub carry-agreement : CarryAgreement
-unfolding carryRefusalOf carryBookOf carryResultsOf
-carry-agreement =
-    record {
-      refused = λ rs results. refl;
-      results = λ b h w rs results. rw (numbers-same b h w rs) refl;
-      carried = λ b h w rs results. either (tooShort rs results) w (keeps-all b h w rs);
-    }
+  pub carried-kept : Kept (carryBookOf b rs results) (carryOffers h rs results)
+  unfolding carryBookOf
+  carried-kept = either Kept (tooShort rs results) (λ e. w) (λ e. posts-same w rs .0)

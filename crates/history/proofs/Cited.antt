@@ -2,7 +2,7 @@
 use mathlib.Core.Path.{_≡_, refl, sym, subst, _∙_}
 use Prim.Native.Nat.{ℕ, _+_, _*_, _/_, min, _≤_, _<_}
 use native.Mathlib.Omega.{arith}
-use mathlib.Core.Bool.{Bool, true, false, cond, not, true≢false}
+use mathlib.Core.Bool.{true, cond, not, true≢false}
 use mathlib.Core.List.{List, [], _∷_, _++_}
 use lib.Seq.{take-all}
 use borrow.Author.Tests.{leb-true}
@@ -15,15 +15,16 @@ use Rattle.book.specs.Posting.{accountAt}
 use Rattle.book.specs.declared.Book.{Book}
 use Rattle.queries.specs.Chain.{chainAt, totalOf}
 use Rattle.queries.specs.Chain as chains
-use Rattle.queries.specs.Statement.{statementOf}
+use Rattle.queries.specs.Statements.{statementOf}
 use Rattle.queries.specs.declared.statements.StatementReply.{StatementReply}
-use Rattle.history.specs.History.{History, points, fate, amounts, entriesOf, toArrears, refundsPaid, customers}
-use Rattle.history.specs.Laws.{In, newest, older, Sums, sumsOf, Refunds, Once, Each, HasContribution}
+use Rattle.history.specs.History.{History, accounts, entries, refundPeriod, points, fate, amounts, entriesOf, toArrears, refundsPaid, customers}
+use Rattle.history.specs.Laws.{In, newest, older, AccountSums, sumsOf, Refunds, Once, Each, HasContribution}
 use Rattle.history.specs.Queries.{statementBy, statementIn}
 use Rattle.history.specs.Agreement.{Kept}
 use Rattle.history.specs.Calls.{Call, answersIn, historyOf}
 use Rattle.history.specs.Claim.{bookOf, answersOf}
 use Rattle.history.specs.Witness.{calls, answers}
+use Rattle.history.proofs.Tests.{tested}
 use Rattle.history.proofs.Queries.{statement-same}
 use Rattle.history.proofs.Claim.{demand3}
 use Rattle.history.proofs.Witness.{witnessed}
@@ -37,7 +38,7 @@ each-at P [] c g w = w .0
 each-at P (r ∷ x) c g w = each-at P x c g (w .1)
 
 -- an account's sums with a statement's figures
-abbrev Balances : Sums → StatementReply → Type 0
+abbrev Balances : AccountSums → StatementReply → Type 0
 Balances s t = s .contributions + t .payments + s .deposits + s .interest + t .arrears ≡ t .bills + s .paidOut + s .retained + t .held + t .deposit + t .credit
 
 module _ (cs : List Call) where
@@ -54,7 +55,7 @@ module _ (cs : List Call) where
   kept = demand3 cs .kept
 
   -- the sums, with the book's amounts
-  conserved : (a : ℕ) → 1 ≤ a → a ≤ 128 →
+  conserved : (a : ℕ) → 1 ≤ a → a ≤ accounts →
       let s = sumsOf h a in
       s .contributions + s .payments + s .deposits + s .interest + accountAt b a .arrears .0
       ≡ s .bills + s .paidOut + s .retained + totalOf chains.heldOf (chainAt b a) + accountAt b a .deposit .0 + accountAt b a .credit .0
@@ -65,11 +66,10 @@ module _ (cs : List Call) where
   -- and with those of every complete statement
   balanced : (a n : ℕ) → statementOf b a n .complete ≡ true → Balances (sumsOf h a) (statementOf b a n)
   unfolding statementIn
-  balanced a n = rw (statement-same kept a n) (go (between a 1 128))
-    where
-      go : (u : Bool) → let t = statementBy (cond (not u) 3 0) h a n in t .complete ≡ true → Balances (sumsOf h a) t
-      go true e = rw (take-all n (entriesOf h a) (leb-true _ _ e)) (demand3 cs .lawful .conserved a)
-      go false e = absurd (true≢false (sym e))
+  balanced a n =
+      rw (statement-same kept a n)
+      (tested (λ u. let t = statementBy (cond (not u) 3 0) h a n in t .complete ≡ true → Balances (sumsOf h a) t) (between a 1 accounts)
+      (λ p e. rw (take-all n (entriesOf h a) (leb-true _ _ e)) (demand3 cs .lawful .conserved a)) (λ p e. absurd (true≢false (sym e))))
 
   divided : (e : Raw) → In e h → kindOf (e .kind) ≡ kind.Contribution → e .amount ≡ toArrears h e + refundsPaid h e + fate h e .held + fate h e .retained
   divided = demand3 cs .lawful .divided
@@ -86,7 +86,7 @@ module _ (cs : List Call) where
       let w = each-at HasContribution x c g (subst (λ y. Each HasContribution y) q (demand3 cs .lawful .contributed)) k in
       (w .entry, w .member, w .contribution, w .aimed)
 
-  in-period : (c e : Raw) → In c h → In e h → kindOf (c .kind) ≡ kind.AddedCustomer → points c e ≡ true → c .day < e .day + 1826
+  in-period : (c e : Raw) → In c h → In e h → kindOf (c .kind) ≡ kind.AddedCustomer → points c e ≡ true → c .day < e .day + refundPeriod
   in-period c e m n k p = omega (arith, demand3 cs .lawful .in-period c e m n k p)
 
   once : (x y z : History) (c d : Raw) → h ≡ x ++ c ∷ (y ++ d ∷ z) → kindOf (c .kind) ≡ kind.Correction → kindOf (d .kind) ≡ kind.Correction →
@@ -96,13 +96,13 @@ module _ (cs : List Call) where
       (record { first = k; second = l; account = a; node = n; serial = s })
 
   -- no amount and no count comes near its limit
-  unsaturated : (a : ℕ) → 1 ≤ a → a ≤ 128 → (accountAt b a .arrears .0 < most) × (accountAt b a .credit .0 < most) × (accountAt b a .deposit .0 < most)
+  unsaturated : (a : ℕ) → 1 ≤ a → a ≤ accounts → (accountAt b a .arrears .0 < most) × (accountAt b a .credit .0 < most) × (accountAt b a .deposit .0 < most)
   unsaturated a l m =
       let d = demand3 cs in
       let w = d .bounded in
       omega (arith, w .arrears a, w .credit a, w .deposit a, d .arrears a l m, d .credit a l m, d .deposit a l m)
 
-  counts : (e : Raw) → (b .count ≤ 1024) × (fate h e .added < 65535)
+  counts : (e : Raw) → (b .count ≤ entries) × (fate h e .added < 65535)
   counts e = let d = demand3 cs in omega (arith, d .kept .agrees .counted, d .bounded .room, d .bounded .added e)
 
 -- the book's own answers to the list of document 01's figures

@@ -1,54 +1,50 @@
--- Demand 3, from the step over lists of calls.
-use mathlib.Core.Path.{_≡_, refl, ap, ap₂}
-use mathlib.Core.List.{List, [], _∷_, foldl}
+-- Demand 3, from the law of one call over lists of calls.
+use mathlib.Core.Path.{_≡_, refl, ap}
+use mathlib.Core.List.{List}
 use Rattle.rules.specs.declared.accounts.Account.{Account}
-use Rattle.book.specs.Fresh.{freshBook}
 use Rattle.book.specs.declared.Book.{Book}
 use Rattle.queries.specs.Chain as chains
-use Rattle.history.specs.History.{History, along, heldOf}
+use Rattle.carry.specs.Carry.{carryRefusalOf}
+use Rattle.history.specs.History.{History, answersAlong, heldAmount}
 use Rattle.history.specs.Agreement.{Kept}
-use Rattle.history.specs.Calls.{Call, posting, carryOver, statement, contribution, save, posted, carried, stated, given, callOffers, answerIn, historyOf}
-use Rattle.history.specs.Claim.{callBook, callAnswer, bookAfter, bookOf, Demand3}
-use Rattle.history.proofs.Lawful.{laws}
-use Rattle.history.proofs.Agree.{agreement}
-use Rattle.history.proofs.Carry.{carry-agreement}
-use Rattle.history.proofs.Records.{save-same, saved-same}
+use Rattle.history.specs.Queries.{Query, statement, contribution, save, stated, given, queryIn}
+use Rattle.history.specs.Calls.{Call, posting, carryOver, query, posted, queried, callIn, historyAfter, historyOf}
+use Rattle.history.specs.Claim.{queryOf, callOf, bookAfter, bookOf, Demand3}
+use Rattle.history.proofs.Laws.{laws}
+use Rattle.history.proofs.Agreement.{agreement}
+use Rattle.history.proofs.Carry.{results-same, carried-kept}
+use Rattle.history.proofs.Calls.{lists-same}
+use Rattle.history.proofs.Images.{save-same, saved-same}
 use Rattle.history.proofs.Queries.{chain-reads, reads-total, held-read, statement-same, contribution-same}
 
-keeps-call : (b : Book) (h : History) → Kept b h → (c : Call) → Kept (callBook b c) (callOffers h c)
-unfolding callBook callOffers
-keeps-call b h w (posting r) = agreement .posted b h w r
-keeps-call b h w (carryOver rs results) = carry-agreement .carried b h w rs results
-keeps-call b h w (statement account allowance) = w
-keeps-call b h w (contribution account node serial) = w
-keeps-call b h w (save buffer) = w
+-- a query on a book that keeps a history answers as the history
+query-same : {b : Book} {h : History} → Kept b h → (q : Query) → queryOf b q ≡ queryIn h q
+unfolding queryOf queryIn
+query-same w (statement account allowance) = ap stated (statement-same w account allowance)
+query-same w (contribution account node serial) = ap given (contribution-same w account node serial)
+query-same w (save buffer) = rw (save-same w buffer, saved-same w buffer) refl
 
-answer-same : (b : Book) (h : History) → Kept b h → (c : Call) → callAnswer b c ≡ answerIn h c
-unfolding callAnswer answerIn
-answer-same b h w (posting r) = ap posted (agreement .replied b h w r)
-answer-same b h w (carryOver rs results) = ap₂ carried (carry-agreement .refused rs results) (carry-agreement .results b h w rs results)
-answer-same b h w (statement account allowance) = ap stated (statement-same w account allowance)
-answer-same b h w (contribution account node serial) = ap given (contribution-same w account node serial)
-answer-same b h w (save buffer) = rw (save-same b h w buffer, saved-same b h w buffer) refl
+-- so does every call, and the next book keeps the next history
+call-same : {b : Book} {h : History} → Kept b h → (c : Call) → Kept (callOf b c .0) (callIn h c .0) × (callOf b c .1 ≡ callIn h c .1)
+unfolding callOf callIn carryRefusalOf
+call-same {b} {h} w (posting r) = (agreement .posted b h w r, ap posted (agreement .replied b h w r))
+call-same w (carryOver rs results) = (carried-kept w rs results, rw (results-same w rs results) refl)
+call-same w (query q) = (w, ap queried (query-same w q))
 
-pub keeps-calls : (b : Book) (h : History) → Kept b h → (cs : List Call) → Kept (bookAfter b cs) (foldl callOffers h cs)
-keeps-calls b h w [] = w
-keeps-calls b h w (c ∷ cs) = keeps-calls (callBook b c) (callOffers h c) (keeps-call b h w c) cs
-
-answers-same : (b : Book) (h : History) → Kept b h → (cs : List Call) → along callBook callAnswer b cs ≡ along callOffers answerIn h cs
-answers-same b h w [] = refl
-answers-same b h w (c ∷ cs) = ap₂ (λ x xs. x ∷ xs) (answer-same b h w c) (answers-same (callBook b c) (callOffers h c) (keeps-call b h w c) cs)
+pub calls-same : {b : Book} {h : History} → Kept b h → (cs : List Call) →
+    Kept (bookAfter b cs) (historyAfter h cs) × (answersAlong callOf b cs ≡ answersAlong callIn h cs)
+calls-same {b} {h} w cs = lists-same callOf callIn (λ b h cs. Kept b h) (λ b h c cs v. call-same v c) b h cs w
 
 pub demand3 : Demand3
 demand3 cs =
-    let w = keeps-calls freshBook [] (agreement .fresh) cs in
+    let (w, answered) = calls-same (agreement .fresh) cs in
     let h = historyOf cs in
     record {
-      answered = answers-same freshBook [] (agreement .fresh) cs;
+      answered = answered;
       arrears = λ a l m. ap (λ (x : Account). x .arrears .0) (w .agrees .account a l m);
       credit = λ a l m. ap (λ (x : Account). x .credit .0) (w .agrees .account a l m);
       deposit = λ a l m. ap (λ (x : Account). x .deposit .0) (w .agrees .account a l m);
-      held = λ a l m. rw (agreement .chain (bookOf cs) h w a l m) (reads-total chains.heldOf heldOf h (held-read h) (chain-reads h h a));
+      held = λ a l m. rw (agreement .chain (bookOf cs) h w a l m) (reads-total chains.heldOf heldAmount h (held-read h) (chain-reads h h a));
       kept = w;
       lawful = laws .lawful h (w .valid);
       bounded = laws .bounded h (w .valid);

@@ -1,21 +1,23 @@
 -- An account's sums and amounts are conserved, and so is each contribution.
 use mathlib.Core.Path.{_≡_, refl, sym, ap, _∙_, subst}
-use Prim.Native.Nat.{ℕ, _+_, _-_}
+use Prim.Native.Nat.{ℕ, _+_, _-_, _≤_}
 use native.Mathlib.Omega.{arith}
-use mathlib.Core.Bool.{Bool, true, false, cond, true≢false}
+use mathlib.Core.Bool.{Bool, true, false, cond, _&&_, true≢false, and-true}
 use mathlib.Core.List.{[], _∷_}
-use lib.Dec.{eqb}
-use borrow.Author.Tests.{eqb-true, eq-eqb}
-use Rattle.entries.specs.Kinds.{numberOf, kindOf, sameOf}
+use lib.Dec.{eqb, ltb}
+use borrow.Author.Tests.{eqb-true, eq-eqb, ltb-false}
+use Rattle.entries.specs.Kinds.{kindOf, sameOf}
+use Rattle.entries.specs.Ranges.{limitsOf}
 use Rattle.entries.specs.declared.raw.Raw.{Raw}
 use Rattle.entries.specs.declared.kinds.Kind.{Kind}
 use Rattle.entries.specs.declared.kinds.Kind.the-variants as kind
-use Rattle.rules.specs.Formulas.{billed, interest}
-use Rattle.history.specs.History.{History, naming, names, found, find, Fate, fateOf, posted, refundOf, change, fate, Balance, Move, stays, charges, credits, refunds, deposits, returns, retains, moved, moveBy, balance, Amounts, answered, amounts, judge, filter, onAccount, entriesOf, Reading, total, amountOf, standingAmount, heldOf, addedUp, customers}
-use Rattle.history.specs.Laws.{Valid, empty, joins, In, newest, older, Sums, sumsBy, sumsOf, Conserved, Divided, Refunds, Each}
-use Rattle.history.proofs.Accept.{Sort, as-contribution, as-added, as-bill, as-payment, as-deposit, as-return, as-expiry, as-correction, correctable, sorted, Role, alone, upon, role}
-use Rattle.history.proofs.Names.{pointed, hit, added-found, fate-new, customers-new, Misses, none, miss, Hits, first, later, plain, misses-kind, hits, names-found, names-points, fate-cases, fate-miss, fate-hit, customers-miss, customers-hit, customers-other}
-use Rattle.history.proofs.Moves.{move-contribution, move-bill, move-payment, move-deposit, move-return, move-added, move-expiry, move-correction, corrects, restates-cases}
+use Rattle.entries.proofs.KindsLaws.{every-kind}
+use Rattle.rules.specs.Formulas.{billed}
+use Rattle.rules.specs.Moves.{settles, leaves, covers, owes}
+use Rattle.history.specs.History.{History, naming, suits, names, present, find, named, targetEntry, targetFate, Fate, fateOf, postedFate, fateAfter, fate, Balance, Move, stays, restates, refunds, deposits, returns, retains, moveOf, moved, moveBy, balance, Amounts, amountsBy, amounts, judge, filter, onAccount, entriesOf, Reading, total, amountOf, standingAmount, heldAmount, addedUp, customers}
+use Rattle.history.specs.Laws.{Valid, empty, joins, In, newest, older, sumsOf, Conserved, Divided, Refunds, Each}
+use Rattle.history.proofs.Accept.{or-left, accepts, Role, alone, upon, role, named-at, accepts-upon, move-upon, upon-cases}
+use Rattle.history.proofs.Names.{pointed, hit, added-found, fate-new, customers-new, Misses, none, miss, Hits, first, later, plain, misses-kind, hits, names-found, names-points, fate-cases, fate-miss, fate-hit, customer-miss}
 
 -- a sum over the entries that pass a test: an entry's own part, and the rest
 pub total-filter : (f : Reading) (all : History) (p : Raw → Bool) (r : Raw) (h : History) →
@@ -36,144 +38,160 @@ module _ (f : Reading) (c : Raw) (h : History) (p : Raw → Bool) where
 
   pub total-hit : {i : ℕ} {e : Raw} {g : History} → Hits c i e g →
       total f (c ∷ h) (filter p g) + cond (p e) (f (kindOf (e .kind)) e (fate h e)) 0 ≡
-      total f h (filter p g) + cond (p e) (f (kindOf (e .kind)) e (change (kindOf (c .kind)) c e (fate h e))) 0
+      total f h (filter p g) + cond (p e) (f (kindOf (e .kind)) e (fateAfter (kindOf (c .kind)) c e (fate h e))) 0
   total-hit {e = e} (first {x} {g} n s l m) = rw (← s, total-filter, total-filter, fate-hit c h x n, total-miss m) (omega arith)
   total-hit (later {x} {g} n t) = rw (total-filter, total-filter, fate-miss c h x n) (omega (arith, total-hit t))
+
+-- a sum of two readings
+total-plus : (f g : Reading) (all es : History) → total (λ k e x. f k e x + g k e x) all es ≡ total f all es + total g all es
+unfolding total
+total-plus f g all [] = refl
+total-plus f g all (e ∷ es) = omega (arith, total-plus f g all es)
+
+-- EACH ACCOUNT
+-- What an entry brings: a contribution and a deposit their amounts, a payment its standing amount.
+abbrev brings : Reading
+brings k e f = amountOf kind.Contribution k e f + standingAmount kind.Payment k e f + amountOf kind.Deposit k e f
+
+-- What it holds: a bill its standing amount, which stands on this side of the sum, and a contribution what is held.
+abbrev holds : Reading
+holds k e f = standingAmount kind.Bill k e f + heldAmount k e f
+
+-- a kind whose amount is 1 or more stands on one of the two sides
+accounted : (e : Raw) (f : Fate) → 1 ≤ e .amount → 1 ≤ f .held → 1 ≤ f .standing → (k : Kind) → 1 ≤ limitsOf k (e .a) .«amount_low» →
+    1 ≤ brings k e f + holds k e f
+unfolding limitsOf
+accounted e f m h s = every-kind _ (omega arith)
+
+-- a move of an account balances so much brought and so much held
+abbrev Balances : Move → Balance → ℕ → ℕ → Type 0
+Balances m b brought held =
+    brought + amountsBy m b .interest + moved m b .arrears + b .deposit + b .credit ≡
+    held + amountsBy m b .paidOut + amountsBy m b .retained + moved m b .deposit + moved m b .credit + b .arrears
+
+-- what a move balances: so much brought more or held less, and so much brought less or held more
+abbrev sides : Move → Balance → ℕ × ℕ
+sides stays b = (0, 0)
+sides (restates x y) b = (x, y)
+sides (refunds x) b = (x, 0)
+sides (deposits x rate day) b = (x, b .deposit)
+sides (returns i) b = (0, 0)
+sides (retains x) b = (x, 0)
+
+-- charged and credited amounts, whose difference is that of x and y
+restated : (b : Balance) (x y up down : ℕ) → up + x ≡ down + y →
+    x + (b .arrears + owes up (b .credit) - settles down (b .arrears)) + b .credit ≡ y + (b .credit - covers up (b .credit) + leaves down (b .arrears)) + b .arrears
+restated b x y up down e = omega arith
+
+-- EACH MOVE balances its two sides
+move-even : (m : Move) (b : Balance) → Balances m b (sides m b .0) (sides m b .1)
+move-even stays b = omega arith
+move-even (restates x y) b = omega (arith, restated b x y (y - x) (x - y) (omega arith))
+move-even (refunds x) b = omega arith
+move-even (deposits x rate day) b = omega arith
+move-even (returns i) b = omega arith
+move-even (retains x) b = omega arith
 
 -- a posted entry's fate, of a kind
 abbrev pub postedAs : Kind → Raw → Fate
 postedAs k e = fateOf (e .amount) 0 0 false (cond (sameOf k kind.Bill) (billed (e .amount) (e .b) (e .a)) (e .amount)) false
 
--- how the sums over entries move: the entry's own part is added, and of what it names the new part takes the old one's place
-abbrev Moves : (s s′ own old new : Reading → ℕ) → Reading → Type 0
-Moves s s′ own old new f = s′ f + old f ≡ own f + s f + new f
+-- EACH KIND: what it brings and holds more is what its move says
+module _ (r e : Raw) (f : Fate) (b : Balance) where
+  alone-even : (l k : Kind) → naming k ≡ false → cond (sameOf k kind.Deposit) (b .deposit) 0 ≡ 0 →
+      let s = sides (moveOf k l r b e f) b in brings k r (postedAs k r) + s .1 ≡ holds k r (postedAs k r) + s .0
+  alone-even l = every-kind _ (omega (arith, true≢false))
 
-record Shifted (s s′ own old new : Reading → ℕ) : Type 0 where
-  contributions : Moves s s′ own old new (amountOf kind.Contribution)
-  payments : Moves s s′ own old new (standingAmount kind.Payment)
-  deposits : Moves s s′ own old new (amountOf kind.Deposit)
-  bills : Moves s s′ own old new (standingAmount kind.Bill)
-  held : Moves s s′ own old new heldOf
+  upon-even : (g : Fate) (k l : Kind) → naming k ≡ true → suits k l ≡ true →
+      let s = sides (moveOf k l r b e f) b in
+      let f′ = fateAfter k r e f in
+      brings k r g + brings l e f′ + holds l e f + s .1 ≡ holds k r g + holds l e f′ + brings l e f + s .0
+  upon-even g = upon-cases _ (omega arith) (omega arith) (omega arith) (omega arith)
 
-abbrev shift : (s s′ own old new : Reading → ℕ) → ((f : Reading) → Moves s s′ own old new f) → Shifted s s′ own old new
-shift s s′ own old new e =
-    record { contributions = e (amountOf kind.Contribution); payments = e (standingAmount kind.Payment); deposits = e (amountOf kind.Deposit); bills = e (standingAmount kind.Bill); held = e heldOf }
+-- what is brought, with interest and arrears, is what is held, paid out and retained, with deposit held and credit
+abbrev Even : History → ℕ → Type 0
+Even h a =
+    let b = balance h a in
+    total brings h (entriesOf h a) + addedUp (λ (x : Amounts). x .interest) (onAccount a) h + b .arrears ≡
+    total holds h (entriesOf h a) + addedUp (λ (x : Amounts). x .paidOut) (onAccount a) h + addedUp (λ (x : Amounts). x .retained) (onAccount a) h + b .deposit + b .credit
 
-abbrev nil : Reading → ℕ
-nil f = 0
+-- a deposit comes while none is held
+unheld : (t : Bool) (deposit : ℕ) → (t && ltb 0 deposit) ≡ false → cond t deposit 0 ≡ 0
+unheld true deposit e = omega (arith, ltb-false 0 deposit e)
+unheld false deposit e = refl
 
-abbrev part : Kind → Raw → Fate → Reading → ℕ
-part k e g f = f k e g
+module _ {h : History} (v : Valid h) (r : Raw) (j : judge h r ≡ 0) where
+  abbrev k : Kind
+  k = kindOf (r .kind)
 
-module _ {h : History} (v : Valid h) (r : Raw) (j : judge h r ≡ 0) (a : ℕ) where
-  -- the sums over the older entries after one that names nothing, and after one that does
-  changed : naming (kindOf (r .kind)) ≡ true → (i : ℕ) (e : Raw) → find h r ≡ found i e → (f : Reading) →
-      total f (r ∷ h) (entriesOf h a) + cond (eqb (r .account) a) (f (kindOf (e .kind)) e (fate h e)) 0 ≡
-      total f h (entriesOf h a) + cond (eqb (r .account) a) (f (kindOf (e .kind)) e (change (kindOf (r .kind)) r e (fate h e))) 0
-  changed k i e q f =
-      rw (ap (λ (n : ℕ). eqb n a) (pointed r e (hit v r i e q .aimed) .account)) at (total-hit f r h (onAccount a) (hits v r i e k q))
+  -- an account's part in what is read off an entry of r's account
+  abbrev on : ℕ → ℕ → ℕ
+  on a x = cond (eqb (r .account) a) x 0
+
+  -- an account's sum after an entry that names nothing, and after one that does
+  plain-sum : naming k ≡ false → (a : ℕ) (f : Reading) → total f (r ∷ h) (entriesOf (r ∷ h) a) ≡ on a (f k r (postedFate r)) + total f h (entriesOf h a)
+  plain-sum n a f = rw (total-filter, total-miss f r h (onAccount a) (misses-kind r n h), fate-new v r j)
+
+  named-sum : naming k ≡ true → (i : ℕ) (e : Raw) → find h r ≡ present i e → (a : ℕ) (f : Reading) →
+      total f (r ∷ h) (entriesOf (r ∷ h) a) + on a (f (kindOf (e .kind)) e (fate h e)) ≡
+      on a (f k r (postedFate r)) + total f h (entriesOf h a) + on a (f (kindOf (e .kind)) e (fateAfter k r e (fate h e)))
+  named-sum n i e q a f =
+      let old = rw (ap (λ (x : ℕ). eqb x a) (pointed r e (hit v r i e q .aimed) .account)) at (total-hit f r h (onAccount a) (hits v r i e n q)) in
+      rw (total-filter, fate-new v r j) (omega arith)
 
   -- another account's sums stay
-  still : eqb (r .account) a ≡ false → Role h r → (f : Reading) → total f (r ∷ h) (entriesOf (r ∷ h) a) ≡ total f h (entriesOf h a)
-  still t (alone k) f = rw (total-filter, t) (omega (arith, total-miss f r h (onAccount a) (misses-kind r k h)))
-  still t (upon k i e q) f = rw (total-filter, t) (omega (arith, rw t at (changed k i e q f)))
+  still : (a : ℕ) → eqb (r .account) a ≡ false → Role h r → (f : Reading) → total f (r ∷ h) (entriesOf (r ∷ h) a) ≡ total f h (entriesOf h a)
+  still a t (alone n) f = omega (arith, rw t at (plain-sum n a f))
+  still a t (upon n i e q s) f = omega (arith, rw t at (named-sum n i e q a f))
 
-  added-still : eqb (r .account) a ≡ false → (f : Amounts → ℕ) → addedUp f (r ∷ h) a ≡ addedUp f h a
-  unfolding addedUp
-  added-still t f = rw t (omega arith)
+  own : eqb (r .account) (r .account) ≡ true
+  own = eq-eqb (r .account) (r .account) refl
 
-  elsewhere : eqb (r .account) a ≡ false → balance (r ∷ h) a ≡ balance h a
-  unfolding balance
-  elsewhere t = rw t
+  abbrev sum : History → Reading → ℕ
+  sum g f = total f g (entriesOf g (r .account))
 
--- on the entry's own account
-module _ {h : History} (v : Valid h) (r : Raw) (j : judge h r ≡ 0) where
-  private-same : eqb (r .account) (r .account) ≡ true
-  private-same = eq-eqb (r .account) (r .account) refl
+  -- on the entry's own account, what is brought and held more is what the move balances
+  grown : Role h r → let b = balance h (r .account) in Balances (moveBy h r b) b (sum (r ∷ h) brings + sum h holds) (sum (r ∷ h) holds + sum h brings)
+  unfolding moveBy
+  grown (alone n) =
+      let b = balance h (r .account) in
+      let free = or-left (sameOf k kind.Deposit && ltb 0 (b .deposit)) (sameOf k kind.DepositReturn && eqb (b .deposit) 0) (accepts h r j .deposit) in
+      let e = targetEntry (named h r) in
+      omega (arith, move-even (moveBy h r b) b, alone-even r e (targetFate h (named h r)) b (kindOf (e .kind)) k n (unheld (sameOf k kind.Deposit) (b .deposit) free), rw own at (plain-sum n (r .account) brings), rw own at (plain-sum n (r .account) holds))
+  grown (upon n i e q s) =
+      let b = balance h (r .account) in
+      rw (named-at h r n i e q)
+      (omega (arith, move-even (moveOf k (kindOf (e .kind)) r b e (fate h e)) b, upon-even r e (fate h e) b (postedFate r) k (kindOf (e .kind)) n s, rw own at (named-sum n i e q (r .account) brings), rw own at (named-sum n i e q (r .account) holds)))
 
-  abbrev sums : History → Reading → ℕ
-  sums g f = total f g (entriesOf g (r .account))
+  own-even : Even h (r .account) → Even (r ∷ h) (r .account)
+  unfolding addedUp balance amounts
+  own-even l = rw own (omega (arith, grown (role h r j)))
 
-  abbrev ups : History → (Amounts → ℕ) → ℕ
-  ups g f = addedUp f g (r .account)
+  other-even : (a : ℕ) → eqb (r .account) a ≡ false → Even h a → Even (r ∷ h) a
+  unfolding addedUp balance
+  other-even a t l = rw t (omega (arith, still a t (role h r j) brings, still a t (role h r j) holds))
 
-  abbrev b : Balance
-  b = balance h (r .account)
-
-  here-plain : naming (kindOf (r .kind)) ≡ false → Shifted (sums h) (sums (r ∷ h)) (part (kindOf (r .kind)) r (posted r)) nil nil
-  here-plain k =
-      shift (sums h) (sums (r ∷ h)) (part (kindOf (r .kind)) r (posted r)) nil nil
-      (λ f. rw (total-filter, private-same, total-miss f r h (onAccount (r .account)) (misses-kind r k h), fate-new v r j) (omega arith))
-
-  here-named : naming (kindOf (r .kind)) ≡ true → (i : ℕ) (e : Raw) → find h r ≡ found i e →
-      Shifted (sums h) (sums (r ∷ h)) (part (kindOf (r .kind)) r (fate (r ∷ h) r)) (part (kindOf (e .kind)) e (fate h e))
-      (part (kindOf (e .kind)) e (change (kindOf (r .kind)) r e (fate h e)))
-  here-named k i e q =
-      shift (sums h) (sums (r ∷ h)) (part (kindOf (r .kind)) r (fate (r ∷ h) r))
-      (part (kindOf (e .kind)) e (fate h e)) (part (kindOf (e .kind)) e (change (kindOf (r .kind)) r e (fate h e)))
-      (λ f. rw (total-filter, private-same) (let c = rw private-same at (changed v r j (r .account) k i e q f) in omega arith))
-
-  balance-after : balance (r ∷ h) (r .account) ≡ moved (moveBy h r b) b
-  unfolding balance
-  balance-after = rw private-same
-
-  added-after : (f : Amounts → ℕ) → addedUp f (r ∷ h) (r .account) ≡ f (answered (moveBy h r b) b) + addedUp f h (r .account)
-  unfolding addedUp amounts
-  added-after f = rw private-same
-
-  -- the account's sums after a move
-  abbrev after : Move → Sums
-  after m = sumsBy (sums (r ∷ h)) (λ f. f (answered m b) + ups h f) (moved m b)
-
-  from-move : (m : Move) → moveBy h r b ≡ m → Conserved (after m) → Conserved (sumsOf (r ∷ h) (r .account))
-  from-move m q l = subst (λ s. Conserved s) (sym same) l
-    where
-      same : sumsOf (r ∷ h) (r .account) ≡ after m
-      same = rw (balance-after, added-after (λ (x : Amounts). x .interest), added-after (λ (x : Amounts). x .paidOut), added-after (λ (x : Amounts). x .retained), q)
-
-  own : Conserved (sumsOf h (r .account)) → Sort h r → Conserved (sumsOf (r ∷ h) (r .account))
-  own l (as-contribution k) =
-      let m = rw k at (here-plain (ap naming k)) in
-      from-move stays (move-contribution h r b k) (omega arith)
-  own l (as-added k i e f c d) =
-      let m = rw (k, c) at (here-named (ap naming k) i e f) in
-      from-move (refunds (refundOf r e (fate h e))) (move-added h r b i e f k) (omega arith)
-  own l (as-bill k) =
-      let m = rw k at (here-plain (ap naming k)) in
-      from-move (charges (billed (r .amount) (r .b) (r .a))) (move-bill h r b k) (omega arith)
-  own l (as-payment k) =
-      let m = rw k at (here-plain (ap naming k)) in
-      from-move (credits (r .amount)) (move-payment h r b k) (omega arith)
-  own l (as-deposit k n a) =
-      let m = rw k at (here-plain (ap naming k)) in
-      from-move (deposits (r .amount) (r .a) (r .day)) (move-deposit h r b k) (omega arith)
-  own l (as-return k) =
-      let m = rw k at (here-plain (ap naming k)) in
-      from-move (returns (interest (b .deposit) (b .rate) (r .day - b .deposited))) (move-return h r b k) (omega arith)
-  own l (as-expiry k i e f c o) =
-      let m = rw (k, c) at (here-named (ap naming k) i e f) in
-      from-move (retains (fate h e .held)) (move-expiry h r b i e f k) (omega arith)
-  own l (as-correction k i e f true c u) =
-      let m = rw (k, c) at (here-named (ap naming k) i e f) in
-      from-move (corrects true (fate h e .standing) (r .amount)) (move-correction h r b i e f true k c)
-      (restates-cases (λ m. Conserved (after m)) (fate h e .standing) (r .amount) (λ q. omega arith) (λ q. omega arith))
-  own l (as-correction k i e f false c u) =
-      let m = rw (k, c) at (here-named (ap naming k) i e f) in
-      from-move (corrects false (fate h e .standing) (r .amount)) (move-correction h r b i e f false k c)
-      (restates-cases (λ m. Conserved (after m)) (r .amount) (fate h e .standing) (λ q. omega arith) (λ q. omega arith))
+even : {h : History} → Valid h → (a : ℕ) → Even h a
+unfolding total filter addedUp balance
+even empty a = refl
+even (joins {r} {h} v j) a = go (λ n. even v n) (eqb (r .account) a) refl
+  where
+    go : ((n : ℕ) → Even h n) → (t : Bool) → eqb (r .account) a ≡ t → Even (r ∷ h) a
+    go ih true t = subst (λ (n : ℕ). Even (r ∷ h) n) (eqb-true (r .account) a t) (own-even v r j (ih (r .account)))
+    go ih false t = other-even v r j a t (ih a)
 
 pub conserve : {h : History} → Valid h → (a : ℕ) → Conserved (sumsOf h a)
-unfolding total filter addedUp balance
-conserve empty a = refl
-conserve (joins {r} {h} v j) a = go (λ n. conserve v n) (eqb (r .account) a) refl
-  where
-    go : ((n : ℕ) → Conserved (sumsOf h n)) → (t : Bool) → eqb (r .account) a ≡ t → Conserved (sumsOf (r ∷ h) a)
-    go ih true t = subst (λ (n : ℕ). Conserved (sumsOf (r ∷ h) n)) (eqb-true (r .account) a t) (own v r j (ih (r .account)) (sorted h r j))
-    go ih false t =
-        let s = still v r j a t (role h r (sorted h r j)) in
-        let u = added-still v r j a t in
-        rw (elsewhere v r j a t, s (amountOf kind.Contribution), s (standingAmount kind.Payment), s (amountOf kind.Deposit), s (standingAmount kind.Bill), s heldOf, u (λ (x : Amounts). x .interest), u (λ (x : Amounts). x .paidOut), u (λ (x : Amounts). x .retained))
-        (ih a)
+conserve {h} v a =
+    let es = entriesOf h a in
+    let contributions = amountOf kind.Contribution in
+    let payments = standingAmount kind.Payment in
+    omega (
+      arith,
+      even v a,
+      total-plus (λ k e f. contributions k e f + payments k e f) (amountOf kind.Deposit) h es,
+      total-plus contributions payments h es,
+      total-plus (standingAmount kind.Bill) heldAmount h es,
+    )
 
 -- EACH CONTRIBUTION
 -- it is divided, and its customers are counted
@@ -188,56 +206,36 @@ still-open (c ∷ h) e =
     let ih = still-open h e in
     fate-cases (λ f. f .closed ≡ false → f .retained ≡ 0) (names c e) (kindOf (c .kind)) c e (fate h e) ih ih (λ t. absurd (true≢false t)) ih
 
-uncorrectable : (bill : Bool) → kind.Contribution ≡ correctable bill → ⊥
-uncorrectable true q = omega (arith, ap numberOf q)
-uncorrectable false q = omega (arith, ap numberOf q)
+-- the parts of an open contribution e, of which `settled` and `paid` are refunded, after an entry that names it
+parted : (r e : Raw) (f : Fate) (b : Balance) (l : Kind) (settled paid added : ℕ) → f .retained ≡ 0 →
+    (e .amount ≡ settled + paid + f .held + f .retained) × (f .added ≡ added) → (k : Kind) →
+    let x = amountsBy (moveOf k l r b e f) b in
+    let f′ = fateAfter k r e f in
+    let t = sameOf k kind.AddedCustomer in
+    (e .amount ≡ cond t (x .settled) 0 + settled + (cond t (x .paidOut) 0 + paid) + f′ .held + f′ .retained) × (f′ .added ≡ cond t 1 0 + added)
+parted r e f b l settled paid added o w = every-kind _ (omega arith)
 
 module _ {h : History} (v : Valid h) (r : Raw) (j : judge h r ≡ 0) where
   -- the contribution that joins
   divided-new : Parted (r ∷ h) r
   divided-new =
-      rw (fate-new v r j, customers-new v (λ (x : Amounts). x .settled) r j, customers-new v (λ (x : Amounts). x .paidOut) r j, customers-new v (λ (x : Amounts). 1) r j) (omega arith)
+      rw (fate-new v r j)
+      (omega (arith, customers-new v (λ (x : Amounts). x .settled) r j, customers-new v (λ (x : Amounts). x .paidOut) r j, customers-new v (λ (x : Amounts). 1) r j))
 
   divided-miss : (e : Raw) → names r e ≡ false → Parted h e → Parted (r ∷ h) e
-  divided-miss e n l =
-      rw (fate-miss r h e n, customers-miss (λ (x : Amounts). x .settled) r h e n, customers-miss (λ (x : Amounts). x .paidOut) r h e n, customers-miss (λ (x : Amounts). 1) r h e n) l
+  unfolding addedUp
+  divided-miss e n l = rw (fate-miss r h e n, customer-miss r e n) (omega arith)
 
-  divided-added : (e : Raw) (i : ℕ) → kindOf (r .kind) ≡ kind.AddedCustomer → find h r ≡ found i e → Parted h e → Parted (r ∷ h) e
-  unfolding amounts
-  divided-added e i k f l =
-      let p = hit v r i e f .aimed in
+  divided-hit : (e : Raw) → In e h → kindOf (e .kind) ≡ kind.Contribution → names r e ≡ true → Parted h e → Role h r → Parted (r ∷ h) e
+  unfolding addedUp amounts
+  divided-hit e m c n l (alone k) = absurd (true≢false (sym n ∙ plain r e k))
+  divided-hit e m c n l (upon k i x q s) =
+      let same : e ≡ x = names-found v r i x q e m n in
+      let at : find h r ≡ present i e = q ∙ ap (λ y. present i y) (sym same) in
       let b = balance h (r .account) in
-      rw (
-        fate-hit r h e (names-points r e (ap naming k) p),
-        customers-hit (λ (x : Amounts). x .settled) r h e k p,
-        customers-hit (λ (x : Amounts). x .paidOut) r h e k p,
-        customers-hit (λ (x : Amounts). 1) r h e k p,
-        move-added h r b i e f k,
-        k,
-      )
-      (omega arith)
-
-  divided-expired : (e : Raw) → kindOf (r .kind) ≡ kind.Expiry → names r e ≡ true → fate h e .closed ≡ false → Parted h e → Parted (r ∷ h) e
-  divided-expired e k n o l =
-      let o′ = ap (λ (l : Kind). sameOf l kind.AddedCustomer) k in
-      rw (fate-hit r h e n, customers-other (λ (x : Amounts). x .settled) r h e o′, customers-other (λ (x : Amounts). x .paidOut) r h e o′, customers-other (λ (x : Amounts). 1) r h e o′, k)
-      (omega (arith, still-open h e o))
-
-  divided-hit : (e : Raw) → In e h → kindOf (e .kind) ≡ kind.Contribution → names r e ≡ true → Parted h e → Sort h r → Parted (r ∷ h) e
-  divided-hit e m c n l (as-contribution k) = absurd (true≢false (sym n ∙ plain r e (ap naming k)))
-  divided-hit e m c n l (as-added k i x f q d) =
-      let same : e ≡ x = names-found v r i x f e m n in
-      divided-added e i k (f ∙ ap (λ y. found i y) (sym same)) l
-  divided-hit e m c n l (as-bill k) = absurd (true≢false (sym n ∙ plain r e (ap naming k)))
-  divided-hit e m c n l (as-payment k) = absurd (true≢false (sym n ∙ plain r e (ap naming k)))
-  divided-hit e m c n l (as-deposit k z a) = absurd (true≢false (sym n ∙ plain r e (ap naming k)))
-  divided-hit e m c n l (as-return k) = absurd (true≢false (sym n ∙ plain r e (ap naming k)))
-  divided-hit e m c n l (as-expiry k i x f q o) =
-      let same : e ≡ x = names-found v r i x f e m n in
-      divided-expired e k n (subst (λ y. fate h y .closed ≡ false) (sym same) o) l
-  divided-hit e m c n l (as-correction k i x f bill q u) =
-      let same : e ≡ x = names-found v r i x f e m n in
-      absurd (uncorrectable bill (sym c ∙ subst (λ (y : Raw). kindOf (y .kind) ≡ correctable bill) (sym same) q))
+      let unclosed = still-open h e (rw c at (accepts-upon h r j k i e at .unclosed)) in
+      rw (fate-hit r h e n, hit v r i e at .aimed, and-true (sameOf (kindOf (r .kind)) kind.AddedCustomer), move-upon h r b k i e at)
+      (parted r e (fate h e) b (kindOf (e .kind)) _ _ _ unclosed l (kindOf (r .kind)))
 
 pub divide : {h : History} → Valid h → (e : Raw) → In e h → kindOf (e .kind) ≡ kind.Contribution → Parted h e
 divide (joins {r} {h} v j) e (newest q) c =
@@ -245,18 +243,18 @@ divide (joins {r} {h} v j) e (newest q) c =
 divide (joins {r} {h} v j) e (older t) c = go (divide v e t c) (names r e) refl
   where
     go : Parted h e → (u : Bool) → names r e ≡ u → Parted (r ∷ h) e
-    go l true n = divided-hit v r j e t c n l (sorted h r j)
+    go l true n = divided-hit v r j e t c n l (role h r j)
     go l false n = divided-miss v r j e n l
 
 -- EACH REFUND
 refund-new : {h : History} → Valid h → (c : Raw) → judge h c ≡ 0 → Refunds c h
 unfolding amounts
 refund-new {h} v c j e m k p =
-    let w = added-found c (sorted h c j) k in
+    let w = added-found c j k in
     let same : w .entry ≡ e = sym (names-found v c (w .place) (w .entry) (w .at) e m (names-points c e (ap naming k) p)) in
-    let at : find h c ≡ found (w .place) e = w .at ∙ ap (λ y. found (w .place) y) same in
+    let at : find h c ≡ present (w .place) e = w .at ∙ ap (λ y. present (w .place) y) same in
     let kinded : kindOf (e .kind) ≡ kind.Contribution = subst (λ (y : Raw). kindOf (y .kind) ≡ kind.Contribution) same (w .contribution) in
-    rw (move-added h c (balance h (c .account)) (w .place) e at k, ← divide v e m kinded .1) (omega arith)
+    rw (move-upon h c (balance h (c .account)) (ap naming k) (w .place) e at, k, ← divide v e m kinded .1) (omega arith)
 
 pub refunds-all : {h : History} → Valid h → Each Refunds h
 refunds-all empty = tt

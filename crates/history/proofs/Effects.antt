@@ -1,156 +1,131 @@
 -- What an entry of each kind does in the book is what it does in the history, where no sum reaches a limit.
-use mathlib.Core.Path.{_≡_, refl, ap}
+use mathlib.Core.Path.{_≡_, refl}
 use Prim.Native.Nat.{ℕ, _+_, _-_, min, _≤_, _<_}
 use native.Mathlib.Omega.{arith}
-use native.Mathlib.Nat.{min-eq-left}
-use mathlib.Core.Bool.{Bool, true, false}
+use native.Mathlib.Nat.{min-eq-left, zero-add, add-zero, sub-zero, zero-sub, zero-min, min-zero}
+use mathlib.Core.Bool.{Bool, true, false, cond, true≢false}
+use lib.Dec.{leb}
+use borrow.Author.Tests.{leb-true, leb-false}
 use Rattle.measures.specs.Cents.{cents, most}
-use Rattle.measures.specs.Days.{day}
 use Rattle.entries.specs.Ranges.{amountMost}
-use Rattle.entries.specs.Entries.{metres, namedOf, refundedOf, expiredOf, restatedOf}
+use Rattle.entries.specs.Kinds.{sameOf}
+use Rattle.entries.specs.Data.{metres, caseOf, particularsOf, refundedOf, expiredOf, restatedOf}
 use Rattle.entries.specs.declared.raw.Raw.{Raw}
+use Rattle.entries.specs.declared.kinds.Kind.{Kind}
 use Rattle.entries.specs.declared.kinds.Kind.the-variants as kind
 use Rattle.entries.specs.declared.data.Data.{Data}
 use Rattle.entries.specs.declared.data.Data.the-variants as data′
 use Rattle.rules.specs.Moves.{settles, leaves, covers, owes}
 use Rattle.rules.specs.Formulas.{billed, interest}
-use Rattle.rules.specs.Accounts.{accountOf, creditedOf, keptOf, chargedOf, holdingOf}
+use Rattle.rules.specs.Accounts.{creditedOf, plusCreditOf, chargedOf, withDepositOf}
 use Rattle.rules.specs.Answers.{amountsOf}
-use Rattle.rules.specs.Changes.{changeOf, contributionOf, addedCustomerOf, billOf, paymentOf, depositOf, depositReturnOf, expiryOf, correctionOf, ownChangeOf, namingChangeOf}
+use Rattle.changes.specs.Changes.{changeOf, contributionOf, addedCustomerOf, billOf, paymentOf, depositOf, depositReturnOf, expiryOf, correctionOf, ownChangeOf, namingChangeOf}
 use Rattle.rules.specs.declared.accounts.Credited.{Credited}
 use Rattle.rules.specs.declared.answers.Amounts as four′
-use Rattle.rules.specs.declared.changes.Found.{Found}
-use Rattle.rules.specs.declared.changes.Found.the-variants.{At, Nothing}
-use Rattle.rules.specs.declared.changes.Change.{Change}
-use Rattle.rules.proofs.Plain.{plain}
-use Rattle.history.specs.History.{Fate, posted, refundOf, change, Balance, Move, stays, charges, credits, refunds, deposits, returns, retains, restates, moved, Amounts, answered}
+use Rattle.changes.specs.declared.Found.{Found}
+use Rattle.changes.specs.declared.Found.the-variants.{At, Nothing}
+use Rattle.changes.specs.declared.Change.{Change}
+use Rattle.rules.proofs.FormulasLaws.{plain}
+use Rattle.history.specs.History.{naming, suits, Fate, postedFate, refundBy, fateAfter, Balance, Move, restates, charges, credits, moveOf, moved, Amounts, amountsBy, lastDay, entries}
 use Rattle.history.specs.Agreement.{keptAccount, keptData}
-use Rattle.history.proofs.Accept.{correctable}
-use Rattle.history.proofs.Moves.{restates-cases, corrects}
+use Rattle.history.proofs.Accept.{FieldsInRange, upon-cases}
+use Rattle.history.proofs.Conserve.{postedAs}
+use Rattle.history.proofs.Bound.{large, Small, billed-small, interest-small}
 
 abbrev pub keptAmounts : Amounts → four′.Amounts
 keptAmounts x = amountsOf (cents (x .settled)) (cents (x .paidOut)) (cents (x .retained)) (cents (x .interest))
 
 -- the change that a move makes
 abbrev pub changeBy : Move → Balance → ℕ → Data → Found → Data → Change
-changeBy m b newest d names named = changeOf (keptAccount (moved m b) newest) d names named (keptAmounts (answered m b))
+changeBy m b newest d names named = changeOf (keptAccount (moved m b) newest) d names named (keptAmounts (amountsBy m b))
 
 fits : (n : ℕ) → n ≤ most → min n most ≡ n
 fits n l = min-eq-left l
 
-same-account : (a a′ c c′ deposit rate on newest : ℕ) → a ≡ a′ → c ≡ c′ →
-    accountOf (cents a) (cents c) (cents deposit) rate (day on) newest ≡ accountOf (cents a′) (cents c′) (cents deposit) rate (day on) newest
-same-account a a′ c c′ deposit rate on newest p q = rw (p, q) refl
+ruleset zeros = (zero-add, add-zero, sub-zero, zero-sub, zero-min, min-zero)
 
 -- an account's moves on plain numbers
 module _ (b : Balance) (newest : ℕ) where
   charged-plain : (x : ℕ) → b .arrears + x ≤ most → chargedOf (keptAccount b newest) (cents x) ≡ keptAccount (moved (charges x) b) newest
   unfolding chargedOf
-  charged-plain x l = rw (fits (b .arrears + owes x (b .credit)) (omega arith)) refl
+  charged-plain x l = simp (zeros, fits (b .arrears + owes x (b .credit)) (omega arith))
 
   kept-plain : (x : ℕ) → b .credit + x ≤ most →
-      keptOf (creditedOf (keptAccount b newest) (cents x) .account) (creditedOf (keptAccount b newest) (cents x) .left) ≡ keptAccount (moved (credits x) b) newest
-  unfolding keptOf creditedOf
-  kept-plain x l = rw (fits (b .credit + leaves x (b .arrears)) (omega arith)) refl
+      plusCreditOf (creditedOf (keptAccount b newest) (cents x) .account) (creditedOf (keptAccount b newest) (cents x) .left) ≡ keptAccount (moved (credits x) b) newest
+  unfolding plusCreditOf creditedOf
+  kept-plain x l = simp (zeros, fits (b .credit + leaves x (b .arrears)) (omega arith))
 
   -- of a charge and a credit one is 0
   abbrev both : ℕ → ℕ → Credited
   both up down = creditedOf (chargedOf (keptAccount b newest) (cents up)) (cents down)
 
-  both-charge : (up down : ℕ) → down ≡ 0 → b .arrears + up ≤ most → b .credit ≤ most →
-      keptOf (both up down .account) (both up down .left) ≡ keptAccount (moved (charges up) b) newest
-  unfolding keptOf creditedOf chargedOf
-  both-charge up down z l m =
-      rw (z, fits (b .arrears + owes up (b .credit)) (omega arith))
-      (same-account _ _ _ _ (b .deposit) (b .rate) (b .deposited) newest (omega arith) (omega arith))
-
-  both-credit : (up down : ℕ) → up ≡ 0 → b .arrears ≤ most → b .credit + down ≤ most →
-      keptOf (both up down .account) (both up down .left) ≡ keptAccount (moved (credits down) b) newest
-  unfolding keptOf creditedOf chargedOf
-  both-credit up down z l m =
-      let owed : min (b .arrears + owes 0 (b .credit)) most ≡ b .arrears = omega arith in
-      let left : b .credit - covers 0 (b .credit) ≡ b .credit = omega arith in
-      rw (z, owed, left, fits (b .credit + leaves down (b .arrears)) (omega arith)) refl
-
-  settled-none : (up down : ℕ) → down ≡ 0 → both up down .settled ≡ cents 0
-  unfolding creditedOf
-  settled-none up down z = ap cents (omega arith)
-
-  settled-some : (up down : ℕ) → up ≡ 0 → b .arrears ≤ most → both up down .settled ≡ cents (settles down (b .arrears))
-  unfolding creditedOf chargedOf
-  settled-some up down z l = ap cents (let owed : min (b .arrears + owes up (b .credit)) most ≡ b .arrears = omega arith in rw owed refl)
-
-  restated : (x y : ℕ) (d : Data) (names : Found) (named : Data) → b .arrears + y ≤ most → b .credit + x ≤ most →
+  restated : (x y : ℕ) → b .arrears + y ≤ most → b .credit + x ≤ most →
       let moves = both (y - x) (x - y) in
-      changeOf (keptOf (moves .account) (moves .left)) d names named (amountsOf (moves .settled) (cents 0) (cents 0) (cents 0)) ≡
-      changeBy (restates x y) b newest d names named
-  restated x y d names named l m =
-      let moves = both (y - x) (x - y) in
-      restates-cases
-      (λ how. changeOf (keptOf (moves .account) (moves .left)) d names named (amountsOf (moves .settled) (cents 0) (cents 0) (cents 0)) ≡ changeBy how b newest d names named)
-      x y (λ q. rw (both-charge (y - x) (x - y) (omega arith) (omega arith) (omega arith), settled-none (y - x) (x - y) (omega arith)) refl)
-      (λ q. rw (both-credit (y - x) (x - y) (omega arith) (omega arith) (omega arith), settled-some (y - x) (x - y) (omega arith) (omega arith)) refl)
+      (plusCreditOf (moves .account) (moves .left) ≡ keptAccount (moved (restates x y) b) newest) × (moves .settled ≡ cents (settles (x - y) (b .arrears)))
+  unfolding plusCreditOf creditedOf chargedOf
+  restated x y l m = go (leb x y) refl
+    where
+      go : (t : Bool) → leb x y ≡ t →
+          let moves = both (y - x) (x - y) in
+          (plusCreditOf (moves .account) (moves .left) ≡ keptAccount (moved (restates x y) b) newest) × (moves .settled ≡ cents (settles (x - y) (b .arrears)))
+      go true e =
+          let z : x - y ≡ 0 = omega (arith, leb-true x y e) in
+          rw z (
+            simp (zeros, fits (b .arrears + owes (y - x) (b .credit)) (omega arith), fits (b .credit - covers (y - x) (b .credit)) (omega arith)),
+            simp zeros,
+          )
+      go false e =
+          let z : y - x ≡ 0 = omega (arith, leb-false x y e) in
+          rw z (
+            simp (zeros, fits (b .arrears) (omega arith), fits (b .credit + leaves (x - y) (b .arrears)) (omega arith)),
+            simp (zeros, fits (b .arrears) (omega arith)),
+          )
 
 -- EFFECTS, KIND BY KIND
-module _ (r : Raw) (b : Balance) (newest : ℕ) where
-  pub contribution-effect : ownChangeOf r kind.Contribution (keptAccount b newest) ≡
-      changeBy stays b newest (keptData kind.Contribution r (posted r) 0 0) Nothing data′.Unused
-  unfolding ownChangeOf contributionOf
-  contribution-effect = refl
+module _ (r : Raw) (b : Balance) (newest n : ℕ) (w : Small n b) (room : n < entries) where
+  -- of an entry that names nothing
+  pub own-effect : (l : Kind) (e : Raw) (f : Fate) (k : Kind) → naming k ≡ false → sameOf k kind.Unknown ≡ false → FieldsInRange r k → r .day ≤ lastDay →
+      ownChangeOf r k (keptAccount b newest) ≡ changeBy (moveOf k l r b e f) b newest (keptData k r (postedAs k r) 0 0) Nothing data′.Unused
+  unfolding ownChangeOf contributionOf billOf paymentOf depositOf depositReturnOf creditedOf withDepositOf
+  own-effect l e f kind.Unknown a u s d = absurd (true≢false u)
+  own-effect l e f kind.Contribution a u s d = refl
+  own-effect l e f kind.AddedCustomer a u s d = absurd (true≢false a)
+  own-effect l e f kind.Bill a u s d =
+      let small = billed-small (r .amount) (r .b) (r .a) (s .amount) (s .b) (s .a) in
+      rw (plain .bill (r .amount) (r .b) (r .a) (s .amount) (omega (arith, s .b)), charged-plain b newest (billed (r .amount) (r .b) (r .a)) (omega arith)) (simp zeros)
+  own-effect l e f kind.Payment a u s d = rw (kept-plain b newest (r .amount) (omega (arith, s .amount))) (simp zeros)
+  own-effect l e f kind.Deposit a u s d = refl
+  own-effect l e f kind.DepositReturn a u s d =
+      let since = r .day - b .deposited in
+      let small = interest-small (b .deposit) (b .rate) since (w .deposit) (w .rate) (omega arith) in
+      rw (plain .deposit-return (b .deposit) (b .rate) since (w .deposit) (w .rate) (omega arith), fits (b .deposit + interest (b .deposit) (b .rate) since) (omega arith)) refl
+  own-effect l e f kind.Expiry a u s d = absurd (true≢false a)
+  own-effect l e f kind.Correction a u s d = absurd (true≢false a)
 
-  pub bill-effect : (g : Fate) → r .amount ≤ amountMost → r .b ≤ 255 → b .arrears + billed (r .amount) (r .b) (r .a) ≤ most →
-      g .standing ≡ billed (r .amount) (r .b) (r .a) → g .corrected ≡ false →
-      ownChangeOf r kind.Bill (keptAccount b newest) ≡
-      changeBy (charges (billed (r .amount) (r .b) (r .a))) b newest (keptData kind.Bill r g 0 0) Nothing data′.Unused
-  unfolding ownChangeOf billOf
-  bill-effect g p q l s c =
-      rw (plain .bill (r .amount) (r .b) (r .a) p q, charged-plain b newest (billed (r .amount) (r .b) (r .a)) l, s, c) refl
+  -- of one that names e, at place i, of which `settled` and `paid` are refunded
+  module _ (e : Raw) (g : Fate) (i settled paid : ℕ) where
+    abbrev pub NamingEffect : Kind → Kind → Type 0
+    NamingEffect k l =
+        let x = amountsBy (moveOf k l r b e g) b in
+        let t = sameOf k kind.AddedCustomer in
+        namingChangeOf r k (keptAccount b newest) i (keptData l e g settled paid) ≡
+        changeBy (moveOf k l r b e g) b newest (keptData k r (postedFate r) 0 0) (At i)
+        (keptData l e (fateAfter k r e g) (cond t (x .settled) 0 + settled) (cond t (x .paidOut) 0 + paid))
 
-  pub payment-effect : (g : Fate) → b .credit + r .amount ≤ most → g .standing ≡ r .amount → g .corrected ≡ false →
-      ownChangeOf r kind.Payment (keptAccount b newest) ≡
-      changeBy (credits (r .amount)) b newest (keptData kind.Payment r g 0 0) Nothing data′.Unused
-  unfolding ownChangeOf paymentOf creditedOf
-  payment-effect g l s c = rw (kept-plain b newest (r .amount) l, s, c) refl
-
-  pub deposit-effect : ownChangeOf r kind.Deposit (keptAccount b newest) ≡
-      changeBy (deposits (r .amount) (r .a) (r .day)) b newest (keptData kind.Deposit r (posted r) 0 0) Nothing data′.Unused
-  unfolding ownChangeOf depositOf holdingOf
-  deposit-effect = refl
-
-  pub return-effect : b .deposit ≤ amountMost → b .rate ≤ 2000 → r .day ≤ 36524 →
-      b .deposit + interest (b .deposit) (b .rate) (r .day - b .deposited) ≤ most →
-      ownChangeOf r kind.DepositReturn (keptAccount b newest) ≡
-      changeBy (returns (interest (b .deposit) (b .rate) (r .day - b .deposited))) b newest (keptData kind.DepositReturn r (posted r) 0 0) Nothing data′.Unused
-  unfolding ownChangeOf depositReturnOf creditedOf holdingOf
-  return-effect p q t l =
-      rw (
-        plain .deposit-return (b .deposit) (b .rate) (r .day - b .deposited) p q (omega arith),
-        fits (b .deposit + interest (b .deposit) (b .rate) (r .day - b .deposited)) l,
-      ) refl
-
-  module _ (e : Raw) (g : Fate) (i s p : ℕ) where
-    pub added-effect : (g′ : Fate) → e .amount ≤ amountMost → r .a ≤ 65535 → g .added < 65535 →
-        settles (refundOf r e g) (b .arrears) + s ≤ most → leaves (refundOf r e g) (b .arrears) + p ≤ most →
-        namingChangeOf r kind.AddedCustomer (keptAccount b newest) i (keptData kind.Contribution e g s p) ≡
-        changeBy (refunds (refundOf r e g)) b newest (keptData kind.AddedCustomer r g′ 0 0) (At i)
-        (keptData kind.Contribution e (change kind.AddedCustomer r e g) (settles (refundOf r e g) (b .arrears) + s) (leaves (refundOf r e g) (b .arrears) + p))
-    unfolding namingChangeOf addedCustomerOf creditedOf refundedOf namedOf
-    added-effect g′ m a n x y =
+    added-effect : e .amount ≤ amountMost → r .a ≤ 65535 → g .added < 65535 → settled + paid + g .held ≤ amountMost → NamingEffect kind.AddedCustomer kind.Contribution
+    unfolding namingChangeOf addedCustomerOf creditedOf caseOf refundedOf particularsOf
+    added-effect m a c p =
+        let x = refundBy r e g in
         let one-more : min (g .added + 1) 65535 ≡ g .added + 1 = min-eq-left (omega arith) in
-        let to : min (s + settles (refundOf r e g) (b .arrears)) most ≡ settles (refundOf r e g) (b .arrears) + s = omega arith in
-        let out : min (p + leaves (refundOf r e g) (b .arrears)) most ≡ leaves (refundOf r e g) (b .arrears) + p = omega arith in
-        rw (plain .added-customer (namedOf (keptData kind.Contribution e g s p)) (metres (r .a)) m a, to, out, one-more) refl
+        let to : min (settled + settles x (b .arrears)) most ≡ settles x (b .arrears) + settled = omega arith in
+        let out : min (paid + leaves x (b .arrears)) most ≡ leaves x (b .arrears) + paid = omega arith in
+        rw (plain .added-customer (particularsOf (keptData kind.Contribution e g settled paid)) (metres (r .a)) m a, to, out, one-more) refl
 
-    pub expiry-effect : (g′ : Fate) →
-        namingChangeOf r kind.Expiry (keptAccount b newest) i (keptData kind.Contribution e g s p) ≡
-        changeBy (retains (g .held)) b newest (keptData kind.Expiry r g′ 0 0) (At i) (keptData kind.Contribution e (change kind.Expiry r e g) s p)
-    unfolding namingChangeOf expiryOf expiredOf namedOf
-    expiry-effect g′ = refl
-
-    pub correction-effect : (g′ : Fate) (bill : Bool) → b .arrears + g .standing + r .amount ≤ most → b .credit + g .standing + r .amount ≤ most →
-        namingChangeOf r kind.Correction (keptAccount b newest) i (keptData (correctable bill) e g s p) ≡
-        changeBy (corrects bill (g .standing) (r .amount)) b newest (keptData kind.Correction r g′ 0 0) (At i)
-        (keptData (correctable bill) e (change kind.Correction r e g) s p)
-    unfolding namingChangeOf correctionOf restatedOf namedOf
-    correction-effect g′ true l m = restated b newest (g .standing) (r .amount) _ _ _ (omega arith) (omega arith)
-    correction-effect g′ false l m = restated b newest (r .amount) (g .standing) _ _ _ (omega arith) (omega arith)
+    pub naming-effect : (k l : Kind) → naming k ≡ true → suits k l ≡ true → e .amount ≤ amountMost → r .amount ≤ amountMost → r .a ≤ 65535 → g .added < 65535 → g .standing ≤ large →
+        (l ≡ kind.Contribution → settled + paid + g .held ≤ amountMost) → NamingEffect k l
+    unfolding namingChangeOf expiryOf correctionOf caseOf expiredOf restatedOf particularsOf
+    naming-effect k l n u m o a c s =
+        let bill = restated b newest (g .standing) (r .amount) (omega arith) (omega arith) in
+        let payment = restated b newest (r .amount) (g .standing) (omega arith) (omega arith) in
+        upon-cases (λ k l. (l ≡ kind.Contribution → settled + paid + g .held ≤ amountMost) → NamingEffect k l)
+        (λ p. added-effect m a c (p refl)) (λ p. simp zero-add) (λ p. rw (bill .0, bill .1) refl) (λ p. rw (payment .0, payment .1) refl) k l n u

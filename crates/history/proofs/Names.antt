@@ -1,20 +1,21 @@
 -- What an entry names: at most one entry, older than itself, and none that is still to come.
 use mathlib.Core.Path.{_≡_, refl, sym, ap, _∙_, subst}
-use Prim.Native.Nat.{ℕ, _+_, _≤_, _<_}
+use Prim.Native.Nat.{ℕ, _≤_, _<_}
 use native.Mathlib.Omega.{arith}
-use mathlib.Core.Bool.{Bool, true, false, cond, _&&_, true≢false, and-false}
+use mathlib.Core.Bool.{Bool, true, false, cond, _&&_, _||_, true≢false, and-false}
 use mathlib.Core.List.{[], _∷_}
 use lib.ListN.{length}
 use lib.Dec.{eqb}
-use borrow.Author.Tests.{eqb-true, eq-eqb}
+use borrow.Author.Tests.{eqb-true, eq-eqb, leb-false}
 use Rattle.entries.specs.Kinds.{kindOf, sameOf}
 use Rattle.entries.specs.declared.raw.Raw.{Raw}
 use Rattle.entries.specs.declared.kinds.Kind.{Kind}
 use Rattle.entries.specs.declared.kinds.Kind.the-variants as kind
 use Rattle.entries.proofs.Ranges.{both-true}
-use Rattle.history.specs.History.{periodEnd, History, lastSerial, naming, points, names, Sought, missing, found, find, Fate, posted, change, fate, Amounts, amounts, judge, ofCustomers}
+use Rattle.entries.proofs.KindsLaws.{same-kind}
+use Rattle.history.specs.History.{periodEnd, History, lastSerial, naming, points, names, Target, absent, present, find, Fate, postedFate, fateAfter, fate, Amounts, judge, addedUp, customerOf}
 use Rattle.history.specs.Laws.{Valid, empty, joins, In, newest, older, Contributed, Again, Once, Each, HasContribution}
-use Rattle.history.proofs.Accept.{accepts, Sort, as-contribution, as-added, as-bill, as-payment, as-deposit, as-return, as-expiry, as-correction, sorted, Role, alone, upon, role}
+use Rattle.history.proofs.Accept.{accepts, Role, alone, upon, role, accepts-upon}
 
 -- last serials rise
 pub last-up : (h : History) (c : Raw) (n : ℕ) → judge h c ≡ 0 → lastSerial h n ≤ lastSerial (c ∷ h) n
@@ -54,12 +55,12 @@ pub record Hit (h : History) (c : Raw) (i : ℕ) (e : Raw) : Type 0 where
   pub member : In e h
   pub old : c .«named_serial» ≤ lastSerial h (c .«named_node»)
 
-pub hit : {h : History} → Valid h → (c : Raw) (i : ℕ) (e : Raw) → find h c ≡ found i e → Hit h c i e
+pub hit : {h : History} → Valid h → (c : Raw) (i : ℕ) (e : Raw) → find h c ≡ present i e → Hit h c i e
 unfolding find
 hit empty c i e f = let z : _≡_ {A = ℕ} 0 1 = cc in absurd (omega arith)
 hit (joins {r} {h} v j) c i e f = go (λ q. hit v c i e q) (points c r) refl f
   where
-    go : (find h c ≡ found i e → Hit h c i e) → (t : Bool) → points c r ≡ t → cond t (found (length h) r) (find h c) ≡ found i e → Hit (r ∷ h) c i e
+    go : (find h c ≡ present i e → Hit h c i e) → (t : Bool) → points c r ≡ t → cond t (present (length h) r) (find h c) ≡ present i e → Hit (r ∷ h) c i e
     go ih true p q =
         let w = pointed c r p in
         let same : r ≡ e = cc in
@@ -76,12 +77,12 @@ hit (joins {r} {h} v j) c i e f = go (λ q. hit v c i e q) (points c r) refl f
         record { inside = omega (arith, w .inside); aimed = w .aimed; member = older (w .member); old = omega (arith, w .old, last-up h r (c .«named_node») j) }
 
 -- an entry whose serial is new: what points at it finds nothing
-pub unfound : {h : History} → Valid h → (c r : Raw) → points c r ≡ true → lastSerial h (r .node) < r .serial → find h c ≡ missing
+pub unfound : {h : History} → Valid h → (c r : Raw) → points c r ≡ true → lastSerial h (r .node) < r .serial → find h c ≡ absent
 unfound {h} v c r p n = go (find h c) refl
   where
-    go : (s : Sought) → find h c ≡ s → s ≡ missing
-    go missing e = refl
-    go (found i x) e =
+    go : (s : Target) → find h c ≡ s → s ≡ absent
+    go absent e = refl
+    go (present i x) e =
         let w = pointed c r p in
         let q : lastSerial h (r .node) ≡ lastSerial h (c .«named_node») = ap (λ m. lastSerial h m) (w .node) in
         absurd (omega (arith, hit v c i x e .old, w .serial))
@@ -93,8 +94,8 @@ named-old {h} v c r w n = go (naming (kindOf (c .kind))) refl (points c r) refl
   where
     clash : points c r ≡ true → naming (kindOf (c .kind)) ≡ true → Role h c → ⊥
     clash p k (alone e) = true≢false (sym k ∙ e)
-    clash p k (upon e i x f) =
-        let z : found i x ≡ missing = sym f ∙ unfound v c r p n in
+    clash p k (upon e i x f s) =
+        let z : present i x ≡ absent = sym f ∙ unfound v c r p n in
         let y : _≡_ {A = ℕ} 0 1 = cc in
         omega arith
 
@@ -105,76 +106,56 @@ named-old {h} v c r w n = go (naming (kindOf (c .kind))) refl (points c r) refl
 
 -- an accepted entry does not name itself
 pub not-itself : {h : History} → Valid h → (r : Raw) → judge h r ≡ 0 → names r r ≡ false
-not-itself {h} v r j = named-old v r r (role h r (sorted h r j)) (accepts h r j .serial-above)
+not-itself {h} v r j = named-old v r r (role h r j) (accepts h r j .serial-above)
+
+pick : {A : Type 0} {x y : A} (P : A → Type 0) (t : Bool) → P x → P y → P (cond t x y)
+pick P true p q = p
+pick P false p q = q
 
 -- what an older fate has, and each of the three changes, a fate has
-pub fate-cases : (P : Fate → Type 0) (t : Bool) (k : Kind) (c e : Raw) (f : Fate) → P f → P (change kind.AddedCustomer c e f) → P (change kind.Expiry c e f) → P (change kind.Correction c e f) → P (cond t (change k c e f) f)
-fate-cases P true kind.Unknown c e f same added expired corrected = same
-fate-cases P true kind.Contribution c e f same added expired corrected = same
-fate-cases P true kind.AddedCustomer c e f same added expired corrected = added
-fate-cases P true kind.Bill c e f same added expired corrected = same
-fate-cases P true kind.Payment c e f same added expired corrected = same
-fate-cases P true kind.Deposit c e f same added expired corrected = same
-fate-cases P true kind.DepositReturn c e f same added expired corrected = same
-fate-cases P true kind.Expiry c e f same added expired corrected = expired
-fate-cases P true kind.Correction c e f same added expired corrected = corrected
-fate-cases P false k c e f same added expired corrected = same
+pub fate-cases : (P : Fate → Type 0) (t : Bool) (k : Kind) (c e : Raw) (f : Fate) → P f → P (fateAfter kind.AddedCustomer c e f) → P (fateAfter kind.Expiry c e f) → P (fateAfter kind.Correction c e f) → P (cond t (fateAfter k c e f) f)
+fate-cases P t k c e f same added expired corrected =
+    pick P t (pick P (sameOf k kind.AddedCustomer) added (pick P (sameOf k kind.Expiry) expired (pick P (sameOf k kind.Correction) corrected same))) same
 
 -- as the history grows
 pub fate-miss : (c : Raw) (h : History) (x : Raw) → names c x ≡ false → fate (c ∷ h) x ≡ fate h x
 unfolding fate
 fate-miss c h x e = rw e
 
-pub fate-hit : (c : Raw) (h : History) (x : Raw) → names c x ≡ true → fate (c ∷ h) x ≡ change (kindOf (c .kind)) c x (fate h x)
+pub fate-hit : (c : Raw) (h : History) (x : Raw) → names c x ≡ true → fate (c ∷ h) x ≡ fateAfter (kindOf (c .kind)) c x (fate h x)
 unfolding fate
 fate-hit c h x e = rw e
 
-naming-added : (k : Kind) (t : Bool) → naming k && t ≡ false → sameOf k kind.AddedCustomer && t ≡ false
-naming-added kind.Unknown t e = refl
-naming-added kind.Contribution t e = refl
-naming-added kind.AddedCustomer t e = e
-naming-added kind.Bill t e = refl
-naming-added kind.Payment t e = refl
-naming-added kind.Deposit t e = refl
-naming-added kind.DepositReturn t e = refl
-naming-added kind.Expiry t e = refl
-naming-added kind.Correction t e = refl
-
-pub customers-miss : (f : Amounts → ℕ) (c : Raw) (h : History) (x : Raw) → names c x ≡ false → ofCustomers f (c ∷ h) x ≡ ofCustomers f h x
-unfolding ofCustomers names
-customers-miss f c h x e = rw (naming-added (kindOf (c .kind)) (points c x) e) (omega arith)
-
-pub customers-hit : (f : Amounts → ℕ) (c : Raw) (h : History) (x : Raw) → kindOf (c .kind) ≡ kind.AddedCustomer → points c x ≡ true →
-    ofCustomers f (c ∷ h) x ≡ f (amounts h c) + ofCustomers f h x
-unfolding ofCustomers
-customers-hit f c h x k p = rw (k, p)
-
-pub customers-other : (f : Amounts → ℕ) (c : Raw) (h : History) (x : Raw) → sameOf (kindOf (c .kind)) kind.AddedCustomer ≡ false →
-    ofCustomers f (c ∷ h) x ≡ ofCustomers f h x
-unfolding ofCustomers
-customers-other f c h x k = rw k (omega arith)
+pub customer-miss : (c x : Raw) → names c x ≡ false → customerOf x c ≡ false
+unfolding names
+customer-miss c x = let k = kindOf (c .kind) in go (sameOf k kind.AddedCustomer) (sameOf k kind.Expiry || sameOf k kind.Correction)
+  where
+    go : (s t : Bool) → ((s || t) && points c x) ≡ false → (s && points c x) ≡ false
+    go true t e = e
+    go false t e = refl
 
 -- an entry whose serial is new has the fate of a posted one
-unnamed : {h : History} → Valid h → (r : Raw) → lastSerial h (r .node) < r .serial → fate h r ≡ posted r
+unnamed : {h : History} → Valid h → (r : Raw) → lastSerial h (r .node) < r .serial → fate h r ≡ postedFate r
 unfolding fate
 unnamed empty r n = refl
 unnamed (joins {r = c} {h} v j) r n =
     let before : lastSerial h (r .node) < r .serial = omega (arith, last-up h c (r .node) j) in
-    fate-miss c h r (named-old v c r (role h c (sorted h c j)) before) ∙ unnamed v r before
+    fate-miss c h r (named-old v c r (role h c j) before) ∙ unnamed v r before
 
-no-customers : {h : History} → Valid h → (f : Amounts → ℕ) (r : Raw) → lastSerial h (r .node) < r .serial → ofCustomers f h r ≡ 0
-unfolding ofCustomers
+no-customers : {h : History} → Valid h → (f : Amounts → ℕ) (r : Raw) → lastSerial h (r .node) < r .serial → addedUp f (customerOf r) h ≡ 0
+unfolding addedUp
 no-customers empty f r n = refl
 no-customers (joins {r = c} {h} v j) f r n =
     let before : lastSerial h (r .node) < r .serial = omega (arith, last-up h c (r .node) j) in
-    customers-miss f c h r (named-old v c r (role h c (sorted h c j)) before) ∙ no-customers v f r before
+    rw (customer-miss c r (named-old v c r (role h c j) before)) (omega (arith, no-customers v f r before))
 
 -- so has one that joins, and no added customer is its own
-pub fate-new : {h : History} → Valid h → (r : Raw) → judge h r ≡ 0 → fate (r ∷ h) r ≡ posted r
+pub fate-new : {h : History} → Valid h → (r : Raw) → judge h r ≡ 0 → fate (r ∷ h) r ≡ postedFate r
 fate-new {h} v r j = fate-miss r h r (not-itself v r j) ∙ unnamed v r (accepts h r j .serial-above)
 
-pub customers-new : {h : History} → Valid h → (f : Amounts → ℕ) (r : Raw) → judge h r ≡ 0 → ofCustomers f (r ∷ h) r ≡ 0
-customers-new {h} v f r j = customers-miss f r h r (not-itself v r j) ∙ no-customers v f r (accepts h r j .serial-above)
+pub customers-new : {h : History} → Valid h → (f : Amounts → ℕ) (r : Raw) → judge h r ≡ 0 → addedUp f (customerOf r) (r ∷ h) ≡ 0
+unfolding addedUp
+customers-new {h} v f r j = rw (customer-miss r r (not-itself v r j)) (omega (arith, no-customers v f r (accepts h r j .serial-above)))
 
 -- c names nothing of a list
 pub data Misses (c : Raw) : History → Type 0 where
@@ -198,21 +179,21 @@ not-pointed : (c x : Raw) → points c x ≡ false → names c x ≡ false
 unfolding names
 not-pointed c x p = rw p (and-false (naming (kindOf (c .kind))))
 
-pub misses-find : (c : Raw) (g : History) → find g c ≡ missing → Misses c g
+pub misses-find : (c : Raw) (g : History) → find g c ≡ absent → Misses c g
 unfolding find
 misses-find c [] f = none
 misses-find c (x ∷ g) f = go (λ q. misses-find c g q) (points c x) refl f
   where
-    go : (find g c ≡ missing → Misses c g) → (t : Bool) → points c x ≡ t → cond t (found (length g) x) (find g c) ≡ missing → Misses c (x ∷ g)
+    go : (find g c ≡ absent → Misses c g) → (t : Bool) → points c x ≡ t → cond t (present (length g) x) (find g c) ≡ absent → Misses c (x ∷ g)
     go ih true p q = let z : _≡_ {A = ℕ} 0 1 = cc in absurd (omega arith)
     go ih false p q = miss (not-pointed c x p) (ih q)
 
-pub hits : {g : History} → Valid g → (c : Raw) (i : ℕ) (e : Raw) → naming (kindOf (c .kind)) ≡ true → find g c ≡ found i e → Hits c i e g
+pub hits : {g : History} → Valid g → (c : Raw) (i : ℕ) (e : Raw) → naming (kindOf (c .kind)) ≡ true → find g c ≡ present i e → Hits c i e g
 unfolding find names
 hits empty c i e k f = let z : _≡_ {A = ℕ} 0 1 = cc in absurd (omega arith)
 hits (joins {r = x} {h = g} v j) c i e k f = go (λ q. hits v c i e k q) (points c x) refl f
   where
-    go : (find g c ≡ found i e → Hits c i e g) → (t : Bool) → points c x ≡ t → cond t (found (length g) x) (find g c) ≡ found i e → Hits c i e (x ∷ g)
+    go : (find g c ≡ present i e → Hits c i e g) → (t : Bool) → points c x ≡ t → cond t (present (length g) x) (find g c) ≡ present i e → Hits c i e (x ∷ g)
     go ih true p q = first {x = x} {g = g} (rw (k, p)) (cc) (cc) (misses-find c g (unfound v c x p (accepts g x j .serial-above)))
     go ih false p q = later (not-pointed c x p) (ih q)
 
@@ -240,7 +221,7 @@ pointed-once v c x e m n p q =
     unique v x e m n (a .node ∙ sym (b .node)) (a .serial ∙ sym (b .serial))
 
 -- what an accepted entry names, among the entries
-pub names-found : {h : History} → Valid h → (c : Raw) (i : ℕ) (e : Raw) → find h c ≡ found i e → (x : Raw) → In x h → names c x ≡ true → x ≡ e
+pub names-found : {h : History} → Valid h → (c : Raw) (i : ℕ) (e : Raw) → find h c ≡ present i e → (x : Raw) → In x h → names c x ≡ true → x ≡ e
 unfolding names
 names-found v c i e f x m n = let w = hit v c i e f in pointed-once v c x e m (w .member) (both-true (naming (kindOf (c .kind))) (points c x) n .1) (w .aimed)
 
@@ -252,26 +233,30 @@ names-points c x k p = rw (k, p)
 pub record Found (h : History) (c : Raw) : Type 0 where
   pub place : ℕ
   pub entry : Raw
-  pub at : find h c ≡ found place entry
+  pub at : find h c ≡ present place entry
   pub contribution : kindOf (entry .kind) ≡ kind.Contribution
   pub day : c .day < periodEnd entry
 
-pub added-found : {h : History} (c : Raw) → Sort h c → kindOf (c .kind) ≡ kind.AddedCustomer → Found h c
-added-found c (as-contribution q) k = let z : _≡_ {A = ℕ} 0 1 = cc in absurd (omega arith)
-added-found c (as-added q i x f l d) k = record { place = i; entry = x; at = f; contribution = l; day = d }
-added-found c (as-bill q) k = let z : _≡_ {A = ℕ} 0 1 = cc in absurd (omega arith)
-added-found c (as-payment q) k = let z : _≡_ {A = ℕ} 0 1 = cc in absurd (omega arith)
-added-found c (as-deposit q n a) k = let z : _≡_ {A = ℕ} 0 1 = cc in absurd (omega arith)
-added-found c (as-return q) k = let z : _≡_ {A = ℕ} 0 1 = cc in absurd (omega arith)
-added-found c (as-expiry q i x f l o) k = let z : _≡_ {A = ℕ} 0 1 = cc in absurd (omega arith)
-added-found c (as-correction q i x f b l u) k = let z : _≡_ {A = ℕ} 0 1 = cc in absurd (omega arith)
+pub added-found : {h : History} (c : Raw) → judge h c ≡ 0 → kindOf (c .kind) ≡ kind.AddedCustomer → Found h c
+added-found {h} c j k = go (role h c j)
+  where
+    go : Role h c → Found h c
+    go (alone n) = absurd (true≢false (sym (ap naming k) ∙ n))
+    go (upon n i e f s) =
+        record {
+          place = i;
+          entry = e;
+          at = f;
+          contribution = same-kind _ _ (rw k at s);
+          day = leb-false _ _ (rw k at (accepts-upon h c j n i e f .period-runs));
+        }
 
 abbrev Refunded : History → Raw → Type 0
 Refunded h c = (w : Contributed h c) × (c .day < periodEnd (w .entry))
 
 refunded-new : {h : History} → Valid h → (r : Raw) → judge h r ≡ 0 → kindOf (r .kind) ≡ kind.AddedCustomer → Refunded h r
 refunded-new {h} v r j k =
-    let w = added-found r (sorted h r j) k in
+    let w = added-found r j k in
     let x = hit v r (w .place) (w .entry) (w .at) in
     (record { entry = w .entry; member = x .member; contribution = w .contribution; aimed = x .aimed }, w .day)
 
@@ -306,17 +291,12 @@ corrected-by (r ∷ h) d e (older t) k p =
 
 pub once : {h : History} → Valid h → Each Once h
 once empty = tt
-once (joins {r = c} {h} v j) = (λ d m w. go (sorted h c j) d m w, once v)
+once (joins {r = c} {h} v j) = (λ d m w. go (role h c j) d m w, once v)
   where
-    go : Sort h c → (d : Raw) → In d h → Again c d → ⊥
-    go (as-contribution q) d m w = let z : _≡_ {A = ℕ} 0 1 = cc in omega arith
-    go (as-added q i x f l t) d m w = let z : _≡_ {A = ℕ} 0 1 = cc in omega arith
-    go (as-bill q) d m w = let z : _≡_ {A = ℕ} 0 1 = cc in omega arith
-    go (as-payment q) d m w = let z : _≡_ {A = ℕ} 0 1 = cc in omega arith
-    go (as-deposit q n a) d m w = let z : _≡_ {A = ℕ} 0 1 = cc in omega arith
-    go (as-return q) d m w = let z : _≡_ {A = ℕ} 0 1 = cc in omega arith
-    go (as-expiry q i x f l o) d m w = let z : _≡_ {A = ℕ} 0 1 = cc in omega arith
-    go (as-correction q i x f b l u) d m w =
+    go : Role h c → (d : Raw) → In d h → Again c d → ⊥
+    go (alone n) d m w = true≢false (sym (ap naming (w .first)) ∙ n)
+    go (upon n i x f s) d m w =
         let p = pointed c x (hit v c i x f .aimed) in
         let same : Pointed d x = record { account = p .account ∙ w .account; node = p .node ∙ w .node; serial = p .serial ∙ w .serial } in
-        true≢false (sym (corrected-by h d x m (w .second) (points-at d x same)) ∙ u)
+        let unmarked = rw (rw (w .first) at s) at (accepts-upon h c j n i x f .uncorrected) in
+        true≢false (sym (corrected-by h d x m (w .second) (points-at d x same)) ∙ unmarked)

@@ -3,41 +3,44 @@ use mathlib.Core.Path.{_≡_, refl, ap}
 use Prim.Native.Nat.{ℕ, zero, suc, _*_, min, _≤_}
 use native.Mathlib.Omega.{arith}
 use native.Mathlib.Nat.{min-eq-left}
-use mathlib.Core.Bool.{Bool, true, false, cond, not, _&&_}
+use mathlib.Core.Bool.{Bool, true, false, cond, not, _||_}
 use mathlib.Core.List.{List, [], _∷_}
 use lib.ListN.{length, take}
 use lib.Dec.{eqb}
 use Rattle.measures.specs.Cents.{most}
 use Rattle.entries.specs.Kinds.{kindOf, sameOf}
 use Rattle.entries.specs.Ranges.{between}
-use Rattle.entries.specs.Refusals.{ruleOf}
-use Rattle.entries.specs.Entries.{entryOf, namedOf}
+use Rattle.entries.specs.Refusals.{refuseIf, decidedOf}
+use Rattle.entries.specs.Data.{entryOf, caseOf, carries}
 use Rattle.entries.specs.declared.raw.Raw.{Raw}
 use Rattle.entries.specs.declared.kinds.Kind.{Kind}
 use Rattle.entries.specs.declared.kinds.Kind.the-variants as kind
 use Rattle.entries.specs.declared.data.Entry.{Entry}
-use Rattle.entries.specs.declared.data.Data.{Data}
-use Rattle.entries.specs.declared.data.Data.the-variants as data′
+use Rattle.entries.specs.declared.data.Particulars.{Particulars}
 use Rattle.entries.specs.declared.refusals.Refusal.the-variants as no
 use Rattle.entries.specs.declared.refusals.Check.the-variants as check
 use Rattle.entries.proofs.Ranges.{inside}
+use Rattle.book.specs.Chain as books
+use Rattle.book.specs.Chain.{soughtIn}
 use Rattle.book.specs.Posting.{accountAt}
 use Rattle.book.specs.declared.Book.{Book}
-use Rattle.queries.specs.Chain.{chainAt, totalOf, standingOf, carries, soughtOf}
+use Rattle.queries.specs.Chain.{walkAt, entriesIn, chainAt, totalOf, standingOf}
 use Rattle.queries.specs.Chain as chains
-use Rattle.queries.specs.Statement.{statementReplyOf, givenOf, statementOf}
-use Rattle.queries.specs.Statement as statements
-use Rattle.queries.specs.Contribution.{contributionReplyOf, figuresOf, contributionQueryOf}
-use Rattle.queries.specs.Contribution as contributions
-use Rattle.history.specs.History.{History, accounts, points, names, Sought, missing, found, find, Fate, fate, entryIn, asking, filter, entriesOf, Reading, total, standingAmount, heldOf, toArrears, refundsPaid}
+use Rattle.queries.specs.Statements.{statementReplyOf, givenOf, statementOf}
+use Rattle.queries.specs.Contributions.{contributionReplyOf, contributionFiguresOf, contributionQueryOf, knownOf}
+use Rattle.queries.specs.declared.statements.StatementAnswer.the-variants as statement
+use Rattle.queries.specs.declared.contributions.ContributionAnswer.the-variants as contribution
+use Rattle.history.specs.History.{History, accounts, names, Target, find, fate, targetEntry, pointerTo, filter, entriesOf, Reading, total, standingAmount, heldAmount, toArrears, refundsPaid}
 use Rattle.history.specs.Laws.{Valid, empty, joins}
-use Rattle.history.specs.Agreement.{keptData, dataIn, keptEntry, keptChain, Kept}
+use Rattle.history.specs.Agreement.{keptEntry, Kept, keptLink, keptWalk}
 use Rattle.history.specs.Queries.{statementBy, statementIn, contributionBy, contributionIn}
-use Rattle.history.proofs.Accept.{accepts, fits, InRange, correctable}
+use Rattle.history.proofs.Accept.{accepts, fits, FieldsInRange, correctable}
 use Rattle.history.proofs.Names.{fate-cases}
 use Rattle.history.proofs.Conserve.{total-filter}
 use Rattle.history.proofs.Bound.{large, standing-small}
-use Rattle.history.proofs.Agree.{agreement}
+use Rattle.history.proofs.Tables.{kept-read}
+use Rattle.history.proofs.Search.{Finds, neither, both, finds}
+use Rattle.history.proofs.Agreement.{agreement}
 
 -- what is held only falls
 held-small : (h : History) (e : Raw) → fate h e .held ≤ e .amount
@@ -53,7 +56,7 @@ some-small false x l = omega arith
 
 -- sums of small numbers are small
 module _ (f : Reading) (all : History) where
-  total-small : (a : ℕ) → ((e : Raw) → InRange e (kindOf (e .kind)) → f (kindOf (e .kind)) e (fate all e) ≤ large) → {h : History} → Valid h →
+  total-small : (a : ℕ) → ((e : Raw) → FieldsInRange e (kindOf (e .kind)) → f (kindOf (e .kind)) e (fate all e) ≤ large) → {h : History} → Valid h →
       total f all (entriesOf h a) ≤ large * length h
   unfolding total filter
   total-small a small empty = omega arith
@@ -72,13 +75,13 @@ pub data Reads (all : History) : List Entry → History → Type 0 where
   none : Reads all [] []
   link : (h : History) {e : Raw} {es : List Entry} {rs : History} → Reads all es rs → Reads all (keptEntry all h e ∷ es) (e ∷ rs)
 
-pub chain-reads : (all h : History) (a : ℕ) → Reads all (keptChain all h a) (entriesOf h a)
-unfolding keptChain filter
+pub chain-reads : (all h : History) (a : ℕ) → Reads all (entriesIn (keptWalk all h a)) (entriesOf h a)
+unfolding keptWalk filter
 chain-reads all [] a = none
 chain-reads all (r ∷ h) a = go (chain-reads all h a) (eqb (r .account) a)
   where
-    go : Reads all (keptChain all h a) (entriesOf h a) → (t : Bool) →
-        Reads all (cond t (keptEntry all h r ∷ keptChain all h a) (keptChain all h a)) (cond t (r ∷ entriesOf h a) (entriesOf h a))
+    go : Reads all (entriesIn (keptWalk all h a)) (entriesOf h a) → (t : Bool) →
+        Reads all (entriesIn (cond t (keptLink all h r ∷ keptWalk all h a) (keptWalk all h a))) (cond t (r ∷ entriesOf h a) (entriesOf h a))
     go ih true = link h ih
     go ih false = ih
 
@@ -98,43 +101,36 @@ unfolding totalOf total
 reads-total g f all same none = refl
 reads-total g f all same (link h {e} w) = omega (arith, reads-total g f all same w, same h e)
 
--- what is read of an entry: what is held, and the standing amount of a bill and of a payment
-reads : (k : Kind) (e : Raw) (f : Fate) (s p : ℕ) →
-    let n = namedOf (keptData k e f s p) in
-    (n .held .0 ≡ heldOf k e f) ×
-    (cond (sameOf (n .kind) kind.Bill) (n .standing .0) 0 ≡ standingAmount kind.Bill k e f) ×
-    (cond (sameOf (n .kind) kind.Payment) (n .standing .0) 0 ≡ standingAmount kind.Payment k e f)
-unfolding namedOf
-reads kind.Unknown e f s p = (refl, refl, refl)
-reads kind.Contribution e f s p = (refl, refl, refl)
-reads kind.AddedCustomer e f s p = (refl, refl, refl)
-reads kind.Bill e f s p = (refl, refl, refl)
-reads kind.Payment e f s p = (refl, refl, refl)
-reads kind.Deposit e f s p = (refl, refl, refl)
-reads kind.DepositReturn e f s p = (refl, refl, refl)
-reads kind.Expiry e f s p = (refl, refl, refl)
-reads kind.Correction e f s p = (refl, refl, refl)
-
+-- what is read of an entry: what is held, and the standing amount of a bill or of a payment
 module _ (all : History) where
-  pub held-read : (h : History) (e : Raw) → chains.heldOf (keptEntry all h e) ≡ heldOf (kindOf (e .kind)) e (fate all e)
+  pub held-read : (h : History) (e : Raw) → chains.heldOf (keptEntry all h e) ≡ heldAmount (kindOf (e .kind)) e (fate all e)
   unfolding chains.heldOf entryOf
-  held-read h e = reads (kindOf (e .kind)) e (fate all e) _ _ .0
+  held-read h e = ap (λ (n : Particulars). n .held .0) (kept-read (kindOf (e .kind)) e (fate all e) _ _ .0)
 
   standing-read : (bill : Bool) (h : History) (e : Raw) →
       standingOf (correctable bill) (keptEntry all h e) ≡ standingAmount (correctable bill) (kindOf (e .kind)) e (fate all e)
   unfolding standingOf entryOf
-  standing-read true h e = reads (kindOf (e .kind)) e (fate all e) _ _ .1
-  standing-read false h e = reads (kindOf (e .kind)) e (fate all e) _ _ .2
+  standing-read bill h e = rw (kept-read l e (fate all e) _ _ .0) (go bill (sameOf l kind.Bill) (sameOf l kind.Payment) refl refl)
+    where
+      l : Kind
+      l = kindOf (e .kind)
+
+      go : (bill s t : Bool) → sameOf l kind.Bill ≡ s → sameOf l kind.Payment ≡ t → (let u = sameOf l (correctable bill) in
+          cond u (cond (s || t) (fate all e .standing) 0) 0 ≡ cond u (fate all e .standing) 0)
+      go bill true t p q = refl
+      go bill false true p q = refl
+      go true false false p q = rw p
+      go false false false p q = rw q
 
 -- STATEMENT
 module _ {b : Book} {h : History} (w : Kept b h) where
-  held-fits : (a : ℕ) → min (totalOf chains.heldOf (keptChain h h a)) most ≡ total heldOf h (entriesOf h a)
+  held-fits : (a : ℕ) → min (totalOf chains.heldOf (entriesIn (keptWalk h h a))) most ≡ total heldAmount h (entriesOf h a)
   held-fits a =
-      rw (reads-total chains.heldOf heldOf h (held-read h) (chain-reads h h a))
-      (min-eq-left (omega (arith, fits (w .valid), total-small heldOf h a (λ e s. some-small (sameOf (kindOf (e .kind)) kind.Contribution) (fate h e .held) (omega (arith, held-small h e, s .amount))) (w .valid))))
+      rw (reads-total chains.heldOf heldAmount h (held-read h) (chain-reads h h a))
+      (min-eq-left (omega (arith, fits (w .valid), total-small heldAmount h a (λ e s. some-small (sameOf (kindOf (e .kind)) kind.Contribution) (fate h e .held) (omega (arith, held-small h e, s .amount))) (w .valid))))
 
   standing-fits : (bill : Bool) (a n : ℕ) →
-      let l = correctable bill in min (totalOf (standingOf l) (take n (keptChain h h a))) most ≡ total (standingAmount l) h (take n (entriesOf h a))
+      let l = correctable bill in min (totalOf (standingOf l) (take n (entriesIn (keptWalk h h a)))) most ≡ total (standingAmount l) h (take n (entriesOf h a))
   standing-fits bill a n =
       let l = correctable bill in
       rw (reads-total (standingOf l) (standingAmount l) h (standing-read h bill) (reads-taken n (chain-reads h h a)))
@@ -146,64 +142,39 @@ module _ {b : Book} {h : History} (w : Kept b h) where
       rw (agreement .chain b h w a l m, w .agrees .account a l m, held-fits a, standing-fits true a n, standing-fits false a n, reads-length (chain-reads h h a)) refl
 
   pub statement-same : (a n : ℕ) → statementOf b a n ≡ statementIn h a n
-  unfolding statementOf statementIn statements.decidedOf ruleOf statementReplyOf
+  unfolding statementOf statementIn decidedOf refuseIf statementReplyOf
   statement-same a n = go (between a 1 accounts) refl
     where
       go : (t : Bool) → between a 1 accounts ≡ t →
-          statements.decidedOf (ruleOf check.Passed (not t) no.UnknownAccount) (givenOf (accountAt b a) (chainAt b a) n) ≡ statementBy (cond (not t) 3 0) h a n
+          decidedOf (refuseIf check.Passed (not t) no.UnknownAccount) (λ n. statementReplyOf (statement.Refused n)) (givenOf (accountAt b a) (chainAt b a) n) ≡ statementBy (cond (not t) 3 0) h a n
       go true e = let i = inside a 1 accounts e in given-same a n (i .0) (i .1)
       go false e = refl
 
 -- CONTRIBUTION QUERY
-abbrev dataFound : History → Sought → Data
-dataFound all missing = data′.Unused
-dataFound all (found i e) = dataIn all e
-
-sought-same : (all h : History) (a node serial : ℕ) → soughtOf node serial (keptChain all h a) .«data» ≡ dataFound all (find h (asking a node serial))
-unfolding soughtOf keptChain find points carries entryOf
-sought-same all [] a node serial = refl
-sought-same all (r ∷ h) a node serial = go (sought-same all h a node serial) (eqb (r .account) a) (eqb (r .node) node && eqb (r .serial) serial) refl
-  where
-    go : soughtOf node serial (keptChain all h a) .«data» ≡ dataFound all (find h (asking a node serial)) → (t u : Bool) → (eqb (r .node) node && eqb (r .serial) serial) ≡ u →
-        soughtOf node serial (cond t (keptEntry all h r ∷ keptChain all h a) (keptChain all h a)) .«data» ≡
-        dataFound all (cond (t && u) (found (length h) r) (find h (asking a node serial)))
-    go ih true true e = rw e refl
-    go ih true false e = rw e ih
-    go ih false u e = ih
-
 module _ (all : History) where
-  figures-of : (l : Kind) (e : Raw) →
-      figuresOf (keptData l e (fate all e) (toArrears all e) (refundsPaid all e)) ≡ contributionBy (cond (not (sameOf l kind.Contribution)) 8 0) all e
-  unfolding figuresOf contributionReplyOf
-  figures-of kind.Unknown e = refl
-  figures-of kind.Contribution e = refl
-  figures-of kind.AddedCustomer e = refl
-  figures-of kind.Bill e = refl
-  figures-of kind.Payment e = refl
-  figures-of kind.Deposit e = refl
-  figures-of kind.DepositReturn e = refl
-  figures-of kind.Expiry e = refl
-  figures-of kind.Correction e = refl
-
-  figures-found : (s : Sought) → figuresOf (dataFound all s) ≡ contributionBy (cond (not (sameOf (kindOf (entryIn s .kind)) kind.Contribution)) 8 0) all (entryIn s)
-  unfolding figuresOf contributionReplyOf kindOf
-  figures-found missing = refl
-  figures-found (found i e) = figures-of (kindOf (e .kind)) e
+  known : {x : books.Sought} {s : Target} → Finds all x s → knownOf x ≡ contributionBy (cond (not (sameOf (kindOf (targetEntry s .kind)) kind.Contribution)) 8 0) all (targetEntry s)
+  unfolding knownOf caseOf contributionFiguresOf contributionReplyOf kindOf entryOf
+  known neither = refl
+  known (both g {e = e}) =
+      let l = kindOf (e .kind) in rw (kept-read l e (fate all e) (toArrears all e) (refundsPaid all e) .1 _ _ _) (go (sameOf l kind.Contribution))
+    where
+      go : (t : Bool) → cond t (contributionBy 0 all e) (contributionBy 8 all e) ≡ contributionBy (cond (not t) 8 0) all e
+      go true = refl
+      go false = refl
 
 module _ {b : Book} {h : History} (w : Kept b h) where
   pub contribution-same : (a node serial : ℕ) → contributionQueryOf b a node serial ≡ contributionIn h a node serial
-  unfolding contributionQueryOf contributionIn contributions.decidedOf ruleOf contributionReplyOf
+  unfolding contributionQueryOf contributionIn decidedOf refuseIf contributionReplyOf
   contribution-same a node serial = go (between node 1 2) (between a 1 accounts) refl
     where
       go : (t u : Bool) → between a 1 accounts ≡ u →
-          contributions.decidedOf (ruleOf (ruleOf check.Passed (not t) no.UnknownNode) (not u) no.UnknownAccount) (figuresOf (soughtOf node serial (chainAt b a) .«data»)) ≡
+          decidedOf (refuseIf (refuseIf check.Passed (not t) no.UnknownNode) (not u) no.UnknownAccount) (λ n. contributionReplyOf (contribution.Refused n)) (knownOf (soughtIn (carries node serial) (walkAt b a))) ≡
           contributionBy
-          (cond (not t) 2 (cond (not u) 3 (cond (not (sameOf (kindOf (entryIn (find h (asking a node serial)) .kind)) kind.Contribution)) 8 0)))
-          h (entryIn (find h (asking a node serial)))
+          (cond (not t) 2 (cond (not u) 3 (cond (not (sameOf (kindOf (targetEntry (find h (pointerTo a node serial)) .kind)) kind.Contribution)) 8 0)))
+          h (targetEntry (find h (pointerTo a node serial)))
       go true true e =
           let i = inside a 1 accounts e in
-          rw (agreement .chain b h w a (i .0) (i .1), sought-same h h a node serial)
-          (figures-found h (find h (asking a node serial)))
+          rw (agreement .chain b h w a (i .0) (i .1)) (known h (finds h h (pointerTo a node serial)))
       go true false e = refl
       go false true e = refl
       go false false e = refl

@@ -4,35 +4,35 @@ use Prim.Native.Nat.{ℕ, _+_}
 use native.Mathlib.Omega.{arith}
 use mathlib.Core.Bool.{Bool, true, false, cond, not, _&&_, _||_, true≢false}
 use mathlib.Core.List.{List, [], _∷_, _++_}
-use lib.ListN.{length, drop}
+use lib.ListN.{length}
 use lib.Dec.{eqb, leb, ltb}
 use borrow.Author.Tests.{eqb-true, le-ltb, not-false}
+use Rattle.measures.specs.Cents.{cents}
 use Rattle.entries.specs.Kinds.{kindOf, namesOf, misnamesOf, sameOf}
 use Rattle.entries.specs.Ranges.{between}
-use Rattle.entries.specs.Refusals.{refusalNumber, ruleOf}
+use Rattle.entries.specs.Refusals.{refusalNumber, refuseIf, decidedOf}
 use Rattle.entries.specs.Refusals as checks
-use Rattle.entries.specs.Entries.{namedOf}
+use Rattle.entries.specs.Data.{metres, entryOf, FromContribution, caseOf, ofContribution, particularsOf}
 use Rattle.entries.specs.declared.raw.Raw.{Raw}
 use Rattle.entries.specs.declared.kinds.Kind.{Kind}
 use Rattle.entries.specs.declared.kinds.Kind.the-variants as kind
-use Rattle.entries.specs.declared.data.Entry.{Entry}
-use Rattle.entries.specs.declared.data.Named.{Named}
+use Rattle.entries.specs.declared.data.Particulars.{Particulars}
 use Rattle.entries.specs.declared.refusals.Refusal.{Refusal}
 use Rattle.entries.specs.declared.refusals.Refusal.the-variants as no
 use Rattle.entries.specs.declared.refusals.Check.{Check}
 use Rattle.entries.specs.declared.refusals.Check.the-variants as check
-use Rattle.entries.proofs.Rows.{refused-stays}
+use Rattle.entries.proofs.RefusalsLaws.{refused-stays, checkNumber}
 use Rattle.rules.specs.Checks.{ownRows, namingRows, checkOwnOf, checkNamingOf}
-use Rattle.rules.specs.Changes.{ownChangeOf, namingChangeOf, decidedOf, ownOutcomeOf, namingOutcomeOf}
-use Rattle.rules.specs.declared.changes.Outcome.{Outcome}
-use Rattle.rules.specs.declared.changes.Outcome.the-variants.{Refused, Accepted}
+use Rattle.changes.specs.Changes.{ownChangeOf, namingChangeOf, ownDecisionOf, namingDecisionOf}
+use Rattle.changes.specs.declared.Decision.{Decision}
+use Rattle.changes.specs.declared.Decision.the-variants.{Refused, Accepted}
 use Rattle.rules.specs.declared.accounts.Account.{Account}
 use Rattle.book.specs.Chain as chains
-use Rattle.book.specs.Refusals.{entryRows, checkEntryOf, searchedOf, outcomeOf}
-use Rattle.entries.proofs.Numbers.{checkNumber}
-use Rattle.history.specs.History.{History, accounts, entries, naming, suits, period, lastSerial, missing, Fate, entryIn, fateIn, Balance, Row, firstOf, refusals}
-use Rattle.history.specs.Agreement.{keptAccount}
-use Rattle.history.proofs.Accept.{or-left, or-right, no-kind, same-kind, is-contribution}
+use Rattle.book.specs.Refusals.{entryRows, checkEntryOf, searchedOf, decisionBy}
+use Rattle.history.specs.History.{History, accounts, entries, naming, suits, lastSerial, absent, Fate, fate, targetEntry, targetFate, Balance, Rule, firstBroken, refusals, toArrears, refundsPaid}
+use Rattle.history.specs.Agreement.{keptAccount, keptData, keptEntry}
+use Rattle.history.proofs.Accept.{or-left, or-right, unsuited}
+use Rattle.entries.proofs.KindsLaws.{same-kind, no-kind}
 
 abbrev Pick : Bool → Type 0 → Type 0 → Type 0
 Pick true A B = A
@@ -40,34 +40,34 @@ Pick false A B = B
 
 -- Rows of one number have the same test, and a row of the history's that the book's table has not is not broken; each as far as no
 -- earlier row stops the entry.
-abbrev pub Same : List checks.Row → List Row → Type 0
+abbrev pub Same : List checks.Row → List Rule → Type 0
 Same [] [] = Unit {0}
 Same (x ∷ xs) [] = ⊥
 Same [] (y ∷ ys) = (y .broken ≡ false) × Same [] ys
 Same (x ∷ xs) (y ∷ ys) =
     Pick (eqb (refusalNumber (x .refusal)) (y .number)) ((x .broken ≡ y .broken) × (y .broken ≡ false → Same xs ys)) ((y .broken ≡ false) × Same (x ∷ xs) ys)
 
-refused-first : (n : Refusal) (xs : List checks.Row) → checks.firstOf (check.Refused n) xs ≡ check.Refused n
+refused-first : (n : Refusal) (xs : List checks.Row) → checks.checkRows (check.Refused n) xs ≡ check.Refused n
 refused-first n [] = refl
 refused-first n (x ∷ xs) = rw (refused-stays n (x .refusal) (x .broken)) (refused-first n xs)
 
-pub first-same : (xs : List checks.Row) (ys : List Row) → Same xs ys → checkNumber (checks.firstOf check.Passed xs) ≡ firstOf ys
-unfolding ruleOf checkNumber
+pub first-same : (xs : List checks.Row) (ys : List Rule) → Same xs ys → checkNumber (checks.checkRows check.Passed xs) ≡ firstBroken ys
+unfolding refuseIf checkNumber
 first-same [] [] s = refl
 first-same (x ∷ xs) [] s = absurd s
 first-same [] (y ∷ ys) s = rw (s .0) (first-same [] ys (s .1))
 first-same (x ∷ xs) (y ∷ ys) s =
     pick (λ q. first-same xs ys q) (λ q. first-same (x ∷ xs) ys q) (eqb (refusalNumber (x .refusal)) (y .number)) refl s
   where
-    here : (Same xs ys → checkNumber (checks.firstOf check.Passed xs) ≡ firstOf ys) → (y .broken ≡ false → Same xs ys) → refusalNumber (x .refusal) ≡ y .number →
-        (t : Bool) → y .broken ≡ t → checkNumber (checks.firstOf (ruleOf check.Passed t (x .refusal)) xs) ≡ cond t (y .number) (firstOf ys)
+    here : (Same xs ys → checkNumber (checks.checkRows check.Passed xs) ≡ firstBroken ys) → (y .broken ≡ false → Same xs ys) → refusalNumber (x .refusal) ≡ y .number →
+        (t : Bool) → y .broken ≡ t → checkNumber (checks.checkRows (refuseIf check.Passed t (x .refusal)) xs) ≡ cond t (y .number) (firstBroken ys)
     here ih s q true e = rw (refused-first (x .refusal) xs) q
     here ih s q false e = ih (s e)
 
-    pick : (Same xs ys → checkNumber (checks.firstOf check.Passed xs) ≡ firstOf ys) →
-        (Same (x ∷ xs) ys → checkNumber (checks.firstOf check.Passed (x ∷ xs)) ≡ firstOf ys) → (t : Bool) → eqb (refusalNumber (x .refusal)) (y .number) ≡ t →
+    pick : (Same xs ys → checkNumber (checks.checkRows check.Passed xs) ≡ firstBroken ys) →
+        (Same (x ∷ xs) ys → checkNumber (checks.checkRows check.Passed (x ∷ xs)) ≡ firstBroken ys) → (t : Bool) → eqb (refusalNumber (x .refusal)) (y .number) ≡ t →
         Pick t ((x .broken ≡ y .broken) × (y .broken ≡ false → Same xs ys)) ((y .broken ≡ false) × Same (x ∷ xs) ys) →
-        checkNumber (checks.firstOf check.Passed (x ∷ xs)) ≡ firstOf (y ∷ ys)
+        checkNumber (checks.checkRows check.Passed (x ∷ xs)) ≡ firstBroken (y ∷ ys)
     pick ih more true e s = rw (s .0) (here ih (s .1) (eqb-true _ _ e) (y .broken) refl)
     pick ih more false e s = rw (s .0) (more (s .1))
 
@@ -102,16 +102,42 @@ added-same k l p q e s = go (sameOf k kind.AddedCustomer) refl
     suited a = rw a at s
 
     go : (t : Bool) → sameOf k kind.AddedCustomer ≡ t → (t && p) ≡ (t && q)
-    go true a = e (is-contribution l (suited (same-kind k kind.AddedCustomer a)))
+    go true a = e (same-kind l kind.Contribution (not-false _ (suited (same-kind k kind.AddedCustomer a))))
     go false a = refl
 
--- what the rules read of a named entry is what the history says of it
-pub record Seen (n : Named) (l : Kind) (x : Raw) (f : Fate) : Type 0 where
-  pub of-kind : n .kind ≡ l
-  pub closed : n .closed ≡ (sameOf l kind.Contribution && f .closed)
-  pub corrected : n .corrected ≡ ((sameOf l kind.Bill || sameOf l kind.Payment) && f .corrected)
-  pub phases : cond (sameOf l kind.Contribution) (n .phases) 0 ≡ cond (sameOf l kind.Contribution) (x .b) 0
-  pub built : cond (sameOf l kind.Contribution) (n .built .0) 0 ≡ cond (sameOf l kind.Contribution) (x .a) 0
+-- what the rules read of an entry of a kind, as the history has it
+abbrev pub seenOf : Kind → Raw → Fate → Particulars
+seenOf l e f =
+    let contribution = sameOf l kind.Contribution in
+    let correctable = sameOf l kind.Bill || sameOf l kind.Payment in
+    record {
+      kind = l;
+      amount = cents (cond contribution (e .amount) 0);
+      built = metres (cond contribution (e .a) 0);
+      phases = cond contribution (e .b) 0;
+      held = cents (cond contribution (f .held) 0);
+      added = cond contribution (f .added) 0;
+      closed = contribution && f .closed;
+      standing = cents (cond correctable (f .standing) 0);
+      corrected = correctable && f .corrected;
+    }
+
+-- what is read of an entry that the book keeps: by the rules, and of a contribution
+pub kept-read : (l : Kind) (e : Raw) (f : Fate) (s p : ℕ) → let d = keptData l e f s p in
+    (particularsOf d ≡ seenOf l e f) ×
+    ((A : Type 0) (g : FromContribution A) (x : A) →
+    ofContribution d g x ≡ cond (sameOf l kind.Contribution)
+    (g (e .b) (metres (e .a)) (f .added) (f .closed) (cents (e .amount)) (cents (f .held)) (cents s) (cents p) (cents (f .retained))) x)
+unfolding caseOf particularsOf
+kept-read kind.Unknown e f s p = (refl, λ A g x. refl)
+kept-read kind.Contribution e f s p = (refl, λ A g x. refl)
+kept-read kind.AddedCustomer e f s p = (refl, λ A g x. refl)
+kept-read kind.Bill e f s p = (refl, λ A g x. refl)
+kept-read kind.Payment e f s p = (refl, λ A g x. refl)
+kept-read kind.Deposit e f s p = (refl, λ A g x. refl)
+kept-read kind.DepositReturn e f s p = (refl, λ A g x. refl)
+kept-read kind.Expiry e f s p = (refl, λ A g x. refl)
+kept-read kind.Correction e f s p = (refl, λ A g x. refl)
 
 -- what is left of the table after 1 to 7, for the entry that r names or none, and what an entry does that passes it
 abbrev pub rows : Raw → Kind → Account → Bool → chains.Sought → List checks.Row
@@ -119,37 +145,41 @@ rows r k acc false s = ownRows r k acc
 rows r k acc true chains.missing = record { broken = true; refusal = no.NotOnChain } ∷ []
 rows r k acc true (chains.found i e) = namingRows r k e
 
-abbrev pub effect : Raw → Kind → Account → Bool → chains.Sought → Outcome
+abbrev pub effect : Raw → Kind → Account → Bool → chains.Sought → Decision
 effect r k acc false s = Accepted (ownChangeOf r k acc)
 effect r k acc true chains.missing = Refused no.NotOnChain
 effect r k acc true (chains.found i e) = Accepted (namingChangeOf r k acc i (e .«data»))
 
 -- the parted checks are one table
-parted : (c : Check) (xs ys : List checks.Row) (o : Outcome) →
-    decidedOf (checks.firstOf c xs) (decidedOf (checks.firstOf check.Passed ys) o) ≡ decidedOf (checks.firstOf c (xs ++ ys)) o
+parted : (c : Check) (xs ys : List checks.Row) (o : Decision) →
+    decidedOf (checks.checkRows c xs) Refused (decidedOf (checks.checkRows check.Passed ys) Refused o) ≡ decidedOf (checks.checkRows c (xs ++ ys)) Refused o
 unfolding decidedOf
 parted check.Passed [] ys o = refl
 parted (check.Refused n) [] ys o = rw (refused-first n ys) refl
-parted c (x ∷ xs) ys o = parted (ruleOf c (x .broken) (x .refusal)) xs ys o
+parted c (x ∷ xs) ys o = parted (refuseIf c (x .broken) (x .refusal)) xs ys o
 
 pub one-table : (r : Raw) (count last : ℕ) (acc : Account) (s : chains.Sought) → let k = kindOf (r .kind) in
-    outcomeOf r count last acc s ≡ decidedOf (checks.firstOf check.Passed (entryRows r k count last ++ rows r k acc (namesOf k) s)) (effect r k acc (namesOf k) s)
-unfolding outcomeOf checkEntryOf searchedOf ownOutcomeOf namingOutcomeOf checkOwnOf checkNamingOf ruleOf decidedOf
+    decisionBy r count last acc s ≡ decidedOf (checks.checkRows check.Passed (entryRows r k count last ++ rows r k acc (namesOf k) s)) Refused (effect r k acc (namesOf k) s)
+unfolding decisionBy checkEntryOf searchedOf ownDecisionOf namingDecisionOf checkOwnOf checkNamingOf refuseIf decidedOf
 one-table r count last acc s = rw (go (namesOf k) s) (parted check.Passed (entryRows r k count last) (rows r k acc (namesOf k) s) (effect r k acc (namesOf k) s))
   where
     k : Kind
     k = kindOf (r .kind)
 
     go : (t : Bool) (s : chains.Sought) →
-        cond t (searchedOf r k acc s) (ownOutcomeOf r k acc) ≡ decidedOf (checks.firstOf check.Passed (rows r k acc t s)) (effect r k acc t s)
+        cond t (searchedOf r k acc s) (ownDecisionOf r k acc) ≡ decidedOf (checks.checkRows check.Passed (rows r k acc t s)) Refused (effect r k acc t s)
     go false s = refl
     go true chains.missing = refl
     go true (chains.found i e) = refl
 
 -- THE ROWS FROM 8 ON
+abbrev pub rowsFrom : ℕ → List Rule → List Rule
+rowsFrom n [] = []
+rowsFrom n (x ∷ xs) = cond (eqb (x .number) n) (x ∷ xs) (rowsFrom n xs)
+
 module _ (h : History) (r : Raw) (k : Kind) (b : Balance) where
   -- of an entry that names nothing
-  pub own-same : (newest : ℕ) → naming k ≡ false → Same (rows r k (keptAccount b newest) false chains.missing) (drop 7 (refusals h r k (entryIn missing) (fateIn h missing) b))
+  pub own-same : (newest : ℕ) → naming k ≡ false → Same (rows r k (keptAccount b newest) false chains.missing) (rowsFrom 8 (refusals h r k (targetEntry absent) (targetFate h absent) b))
   own-same newest n =
       let later = sameOf k kind.Expiry || sameOf k kind.Correction in
       let no-added = or-left (sameOf k kind.AddedCustomer) later n in
@@ -166,53 +196,49 @@ module _ (h : History) (r : Raw) (k : Kind) (b : Balance) where
       )
 
   -- of an entry that names one that is not on the chain
-  pub missing-same : (acc : Account) → naming k ≡ true → Same (rows r k acc true chains.missing) (drop 7 (refusals h r k (entryIn missing) (fateIn h missing) b))
+  pub missing-same : (acc : Account) → naming k ≡ true → Same (rows r k acc true chains.missing) (rowsFrom 8 (refusals h r k (targetEntry absent) (targetFate h absent) b))
   missing-same acc n =
-      let stops : true ≡ (naming k && not (suits k (kindOf 0))) = rw (n, no-kind) (none (sameOf k kind.Correction)) in
+      let stops : true ≡ (naming k && not (suits k (kindOf 0))) = rw (n, unsuited k) in
       (stops, λ t. absurd (true≢false (stops ∙ t)))
-    where
-      none : (t : Bool) → true ≡ not (cond t false false)
-      none true = refl
-      none false = refl
 
-  -- of an entry that names e, which the history has as x
-  module _ (acc : Account) (i : ℕ) (e : Entry) (x : Raw) (f : Fate) (n : naming k ≡ true) (on : e .day .0 ≡ x .day) (s : Seen (namedOf (e .«data»)) (kindOf (x .kind)) x f) where
-    pub naming-same : Same (rows r k acc true (chains.found i e)) (drop 7 (refusals h r k x f b))
-    naming-same =
-        let returned = naming-not k kind.DepositReturn refl n in (
-          rw (s .of-kind, n) (misnames-same k (kindOf (x .kind))),
-          λ suited. (
-            rw (naming-not k kind.Deposit refl n, returned) refl,
-            (
-              rw returned (ap (λ n. ltb (r .day) n) on),
+  -- of an entry that names x, which the book keeps
+  pub naming-same : (acc : Account) (i : ℕ) (g : History) (x : Raw) → naming k ≡ true →
+      Same (rows r k acc true (chains.found i (keptEntry h g x))) (rowsFrom 8 (refusals h r k x (fate h x) b))
+  unfolding entryOf
+  naming-same acc i g x n =
+      let l = kindOf (x .kind) in
+      let returned = naming-not k kind.DepositReturn refl n in
+      rw (kept-read l x (fate h x) (toArrears h x) (refundsPaid h x) .0) (
+        rw n (misnames-same k l),
+        λ suited. (
+          rw (naming-not k kind.Deposit refl n, returned) refl,
+          (
+            rw returned refl,
+            λ t. (
+              refl,
               λ t. (
-                s .closed,
+                refl,
                 λ t. (
-                  ap (λ q. sameOf k kind.AddedCustomer && q) (ap (λ n. leb (n + period) (r .day)) on),
+                  refl,
                   λ t. (
-                    ap (λ q. sameOf k kind.Expiry && q) (ap (λ n. ltb (r .day) (n + period)) on),
+                    added-same k l _ _ (λ l. rw l) suited,
                     λ t. (
-                      added-same k (kindOf (x .kind)) _ _ (λ l. ap (λ n. eqb (r .b) 1 && eqb n 3) (rw l at (s .phases))) suited,
-                      λ t. (
-                        added-same k (kindOf (x .kind)) _ _ (λ l. ap (λ n. ltb n (r .a)) (rw l at (s .built))) suited,
-                        λ t. (
-                          s .corrected,
-                          λ t. tt,
-                        ),
-                      ),
+                      added-same k l _ _ (λ l. rw l) suited,
+                      λ t. (refl, λ t. tt),
                     ),
                   ),
                 ),
               ),
             ),
           ),
-        )
+        ),
+      )
 
 -- the two tables as a whole
 module _ (h : History) (r : Raw) (k : Kind) (count last : ℕ) (rest : List checks.Row) (x : Raw) (f : Fate) (b : Balance) (counted : count ≡ length h)
     (lasts : between (r .node) 1 2 ≡ true → last ≡ lastSerial h (r .node))
-    (state : between (r .account) 1 accounts ≡ true → Same rest (drop 7 (refusals h r k x f b))) where
-  pub check-same : checkNumber (checks.firstOf check.Passed (entryRows r k count last ++ rest)) ≡ firstOf (refusals h r k x f b)
+    (state : between (r .account) 1 accounts ≡ true → Same rest (rowsFrom 8 (refusals h r k x f b))) where
+  pub check-same : checkNumber (checks.checkRows check.Passed (entryRows r k count last ++ rest)) ≡ firstBroken (refusals h r k x f b)
   check-same =
       first-same (entryRows r k count last ++ rest) (refusals h r k x f b) (
         refl,

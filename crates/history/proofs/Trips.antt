@@ -1,7 +1,7 @@
 -- Round trips: a book and a history that agree determine each other, and the image is the history's.
 use Prim.Native.Nat.{ℕ, zero, suc, _+_, _≤_}
 use mathlib.Core.Path.{_≡_, refl, sym, ap, _∙_}
-use mathlib.Core.Bool.{Bool, true, false, cond}
+use mathlib.Core.Bool.{cond}
 use mathlib.Core.List.{List, [], _∷_, _++_, map, reverseAux, append-nil, append-assoc}
 use native.Mathlib.Omega.{arith}
 use lib.ListN.{length, drop, length-append, length-drop, take-append-drop}
@@ -11,7 +11,7 @@ use borrow.Author.Tests.{eqb-true, eqb-false}
 use Rattle.entries.specs.declared.raw.Raw.{Raw}
 use Rattle.rules.specs.declared.accounts.Account.{Account}
 use Rattle.codec.specs.Bytes.{Bytes}
-use Rattle.codec.specs.Records.{layout, InRange, AllInRange, encodeAll, decodeRecord, decodeAll}
+use Rattle.codec.specs.Records.{recordBytes, layout, FieldsFit, AllFieldsFit, encodeAll, decodeRecord, decodeAll}
 use Rattle.codec.specs.Headers.{headerOf, countIn}
 use Rattle.codec.specs.declared.Record.{Record}
 use Rattle.codec.proofs.Bytes.{bytes-drop}
@@ -21,22 +21,24 @@ use Rattle.codec.proofs.Headers.{length-header, count-header, header-passes, ch
 use Rattle.book.specs.Fresh.{freshBook}
 use Rattle.book.specs.Posting.{accountAt, postOf, postsOf}
 use Rattle.book.specs.declared.Book.{Book}
-use Rattle.image.specs.Saves.{imageOf}
-use Rattle.image.specs.Loads.{LoadReply, rawIn, recordsIn, wholeOf, failedOf, stopOf, loadAll, loadOf}
-use Rattle.image.proofs.Loading.{load-begins, load-checked, stop-none, none-stops, load-more}
+use Rattle.saves.specs.Saves.{imageOf}
+use Rattle.replays.specs.Loaded.{LoadedReply, rawIn, acceptedLoad, refusedLoad, recordRefusal}
+use Rattle.loads.specs.Loads.{recordsIn, loadAll, loadOf}
+use Rattle.loads.proofs.Loads.{load-begins, load-checked, stop-none, none-stops, load-more}
 use Rattle.history.specs.History.{History, entries, judge, offer}
 use Rattle.history.specs.Laws.{Valid, empty, joins}
 use Rattle.history.specs.Images.{newestOf, recordsBy, imageIn, bytesIn, Typed, AllTyped}
 use Rattle.history.specs.Agreement.{Kept}
 use Rattle.history.specs.Trips.{historyIn, Trips}
+use Rattle.history.proofs.Tests.{tested}
 use Rattle.history.proofs.Accept.{accepts, fits}
-use Rattle.history.proofs.Agree.{agreement}
+use Rattle.history.proofs.Agreement.{agreement}
 use Rattle.history.proofs.Determined.{determined}
-use Rattle.history.proofs.Records.{image-kept}
+use Rattle.history.proofs.Images.{image-kept}
 use Rattle.history.proofs.Carry.{number-same}
-use Rattle.history.proofs.Claim.{keeps-calls}
+use Rattle.history.proofs.Claim.{calls-same}
 
--- ---- one record
+-- ONE RECORD
 
 module _ {b : Book} {h : History} (w : Kept b h) (r : Raw) (j : judge h r ≡ 0) where
   kept-joined : Kept (postOf b r .book) (r ∷ h)
@@ -46,13 +48,13 @@ module _ {b : Book} {h : History} (w : Kept b h) (r : Raw) (j : judge h r ≡ 0)
   newest-kept : accountAt b (r .account) .newest ≡ newestOf h (r .account)
   newest-kept = let p = accepts h r j in ap (λ (x : Account). x .newest) (w .agrees .account (r .account) (p .account-low) (p .account-high))
 
--- ---- the image of a history loads
+-- THE IMAGE OF A HISTORY LOADS
 
 -- the book that keeps a history, by its records
 pub record Loads (h : History) : Type 0 where
   pub book : Book
   pub kept : Kept book h
-  pub again : loadAll (recordsBy h) freshBook 1 ≡ wholeOf book
+  pub again : loadAll (recordsBy h) freshBook 1 ≡ acceptedLoad book
 
 pub loads : {h : History} → Valid h → Loads h
 unfolding recordsBy loadAll
@@ -62,7 +64,7 @@ loads (joins {r} {h} v j) =
     record {
       book = postOf (p .book) r .book;
       kept = kept-joined (p .kept) r j;
-      again = load-more (recordsBy h) _ freshBook (p .book) 1 (p .again) (rw (newest-kept (p .kept) r j) at (none-stops (p .book) r (number-same (p .book) h (p .kept) r ∙ j)));
+      again = load-more (recordsBy h) _ freshBook (p .book) 1 (p .again) (rw (newest-kept (p .kept) r j) at (none-stops (p .book) r (number-same (p .kept) r ∙ j)));
     }
 
 length-records : (h : History) → length (recordsBy h) ≡ length h
@@ -73,76 +75,64 @@ length-records (r ∷ h) = omega (arith, length-append (recordsBy h) (record { r
 newest-most : (h : History) (a : ℕ) → newestOf h a ≤ length h
 unfolding newestOf
 newest-most [] a = omega arith
-newest-most (r ∷ h) a = go (eqb (r .account) a) (newest-most h a)
-  where
-    go : (t : Bool) → newestOf h a ≤ length h → cond t (length h + 1) (newestOf h a) ≤ suc (length h)
-    go true older = omega arith
-    go false older = omega arith
+newest-most (r ∷ h) a =
+    tested (λ t. cond t (length h + 1) (newestOf h a) ≤ suc (length h)) (eqb (r .account) a) (λ e. omega arith) (λ e. omega (arith, newest-most h a))
 
 -- every record fits its fields
-in-range : (h : History) → AllTyped h → length h ≤ entries → AllInRange (recordsBy h)
+in-range : (h : History) → AllTyped h → length h ≤ entries → AllFieldsFit (recordsBy h)
 unfolding recordsBy
 in-range [] t l = tt
 in-range (r ∷ h) t l = in-range-append (recordsBy h) _ (in-range h (t .1) (omega arith)) (one (t .0), tt)
   where
-    one : Typed r → InRange (record { raw = r; next = newestOf h (r .account) })
+    one : Typed r → FieldsFit (record { raw = r; next = newestOf h (r .account) })
     one f = omega (arith, newest-most h (r .account))
 
 pub length-image : (h : History) → length (imageIn h) ≡ bytesIn h
 unfolding imageIn
 length-image h = omega (arith, length-append (headerOf (length h)) (encodeAll (recordsBy h)), length-header (length h), length-encodeAll (recordsBy h), length-records h)
 
-pub image-loads : {h : History} (v : Valid h) → AllTyped h → loadOf (imageIn h) ≡ wholeOf (loads v .book)
+pub image-loads : {h : History} (v : Valid h) → AllTyped h → loadOf (imageIn h) ≡ acceptedLoad (loads v .book)
 unfolding imageIn
 image-loads {h} v t =
     let n = fits v in
     let rest : List ℕ = encodeAll (recordsBy h) in
     let passes = header-passes (length h) rest n (length-image h) in
     let count : countIn (headerOf (length h) ++ rest) ≡ length h = count-header (length h) rest (omega arith) in
-    let body : drop 24 (headerOf (length h) ++ rest) ≡ rest = drop-at (headerOf (length h)) rest 24 (length-header (length h)) in
+    let body : drop recordBytes (headerOf (length h) ++ rest) ≡ rest = drop-at (headerOf (length h)) rest recordBytes (length-header (length h)) in
     let all : decodeAll (length h) rest ≡ recordsBy h = rw (length-records h) at (decode-encode-all (recordsBy h) (in-range h t n)) in
     load-begins (headerOf (length h) ++ rest) passes ∙ rw (count, body, all) (loads v .again)
 
 -- as the book that keeps it
-pub saved : (b : Book) (h : History) → Kept b h → AllTyped h → loadOf (imageOf b) ≡ wholeOf b
+pub saved : (b : Book) (h : History) → Kept b h → AllTyped h → loadOf (imageOf b) ≡ acceptedLoad b
 saved b h w t =
-    ap loadOf (image-kept b h w) ∙ image-loads (w .valid) t ∙ ap wholeOf (determined (loads (w .valid) .book) b h (loads (w .valid) .kept) w)
+    ap loadOf (image-kept w) ∙ image-loads (w .valid) t ∙ ap acceptedLoad (determined (loads (w .valid) .book) b h (loads (w .valid) .kept) w)
 
--- ---- an image that loads is its history's
+-- AN IMAGE THAT LOADS IS ITS HISTORY'S
 
 -- what records that load make of a book and its history
 record Extends (b : Book) (h : History) (rs : List Record) (i : ℕ) : Type 0 where
-  whole : loadAll rs b i ≡ wholeOf (postsOf b (map rawIn rs))
+  whole : loadAll rs b i ≡ acceptedLoad (postsOf b (map rawIn rs))
   kept : Kept (postsOf b (map rawIn rs)) (reverseAux (map rawIn rs) h)
   records : recordsBy (reverseAux (map rawIn rs) h) ≡ recordsBy h ++ rs
 
 extend : (rs : List Record) (b : Book) (h : History) (i : ℕ) → Kept b h → loadAll rs b i .refusal ≡ 0 → Extends b h rs i
 unfolding loadAll postsOf recordsBy
 extend [] b h i w e = record { whole = refl; kept = w; records = sym (append-nil (recordsBy h)) }
-extend (r ∷ rs) b h i w e = by (eqb (stopOf b r) 0) refl (extend rs next (rawIn r ∷ h) (i + 1)) e
-  where
-    next : Book
-    next = postOf b (r .raw) .book
-
-    by : (t : Bool) → eqb (stopOf b r) 0 ≡ t → (Kept next (rawIn r ∷ h) → loadAll rs next (i + 1) .refusal ≡ 0 → Extends next (rawIn r ∷ h) rs (i + 1)) →
-        cond t (loadAll rs next (i + 1)) (failedOf (stopOf b r) i) .refusal ≡ 0 → Extends b h (r ∷ rs) i
-    by false p more z = absurd (eqb-false _ 0 p z)
-    by true p more z =
-        let none = stop-none b r (eqb-true (stopOf b r) 0 p) in
-        let j : judge h (rawIn r) ≡ 0 = sym (number-same b h w (rawIn r)) ∙ none .0 in
-        let next : r .next ≡ newestOf h (rawIn r .account) = none .1 ∙ newest-kept w (rawIn r) j in
-        let rest = more (kept-joined w (rawIn r) j) z in
-        record {
-          whole = rw p (rest .whole);
-          kept = rest .kept;
-          records = rest .records ∙ rw (← next) (append-assoc (recordsBy h) (r ∷ []) rs);
-        }
+extend (r ∷ rs) b h i w e =
+    tested (λ t. cond t (loadAll rs (postOf b (r .raw) .book) (i + 1)) (refusedLoad (recordRefusal b r) i) .refusal ≡ 0 → Extends b h (r ∷ rs) i) (eqb (recordRefusal b r) 0)
+    (λ p z.
+    let none = stop-none b r (eqb-true (recordRefusal b r) 0 p) in
+    let j : judge h (rawIn r) ≡ 0 = sym (number-same w (rawIn r)) ∙ none .0 in
+    let next : r .next ≡ newestOf h (rawIn r .account) = none .1 ∙ newest-kept w (rawIn r) j in
+    let rest = extend rs (postOf b (r .raw) .book) (rawIn r ∷ h) (i + 1) (kept-joined w (rawIn r) j) z in
+    record { whole = rw p (rest .whole); kept = rest .kept; records = rest .records ∙ rw (← next) (append-assoc (recordsBy h) (r ∷ []) rs) })
+    (λ p z. absurd (eqb-false _ 0 p z)) e
 
 loaded : (l : List ℕ) → loadOf l .refusal ≡ 0 → Extends freshBook [] (recordsIn l) 1
 loaded l e =
-    extend (recordsIn l) freshBook [] 1 (agreement .fresh) (ap (λ (q : LoadReply). q .refusal) (sym (load-begins l (load-checked l e))) ∙ e)
+    extend (recordsIn l) freshBook [] 1 (agreement .fresh) (ap (λ (q : LoadedReply). q .refusal) (sym (load-begins l (load-checked l e))) ∙ e)
 
-loaded-posted : (l : List ℕ) → loadOf l .refusal ≡ 0 → loadOf l ≡ wholeOf (postsOf freshBook (map rawIn (recordsIn l)))
+loaded-posted : (l : List ℕ) → loadOf l .refusal ≡ 0 → loadOf l ≡ acceptedLoad (postsOf freshBook (map rawIn (recordsIn l)))
 loaded-posted l e = load-begins l (load-checked l e) ∙ loaded l e .whole
 
 pub loaded-kept : (l : List ℕ) → loadOf l .refusal ≡ 0 → Kept (loadOf l .book) (historyIn l)
@@ -155,34 +145,34 @@ image-again l h e =
     let sized = c .sized in
     let records : recordsBy (historyIn l) ≡ recordsIn l = loaded l e .records in
     let count : length (historyIn l) ≡ countIn l =
-    sym (length-records (historyIn l)) ∙ ap (λ (q : List Record). length q) records ∙ length-decodeAll (countIn l) (drop 24 l) in
-    let body : encodeAll (recordsIn l) ≡ drop 24 l = encode-decode-all (countIn l) (drop 24 l) (simp length-drop (omega arith)) (bytes-drop 24 l h) in
-    rw (records, body, count, header-again l c h) (take-append-drop 24 l)
+    sym (length-records (historyIn l)) ∙ ap (λ (q : List Record). length q) records ∙ length-decodeAll (countIn l) (drop recordBytes l) in
+    let body : encodeAll (recordsIn l) ≡ drop recordBytes l = encode-decode-all (countIn l) (drop recordBytes l) (simp length-drop (omega arith)) (bytes-drop recordBytes l h) in
+    rw (records, body, count, header-again l c h) (take-append-drop recordBytes l)
 
--- ---- what bytes hold is typed
+-- WHAT BYTES HOLD IS TYPED
 
-raw-typed : (r : Record) → InRange r → Typed (rawIn r)
+raw-typed : (r : Record) → FieldsFit r → Typed (rawIn r)
 raw-typed r f = omega arith
 
 pub decoded-typed : (n : ℕ) (l : List ℕ) → Bytes l → AllTyped (map rawIn (decodeAll n l))
 unfolding decodeRecord
 decoded-typed zero l h = tt
-decoded-typed (suc n) l h = (raw-typed (decodeRecord l) (fit-unpack layout l h), decoded-typed n (drop 24 l) (bytes-drop 24 l h))
+decoded-typed (suc n) l h = (raw-typed (decodeRecord l) (fit-unpack layout l h), decoded-typed n (drop recordBytes l) (bytes-drop recordBytes l h))
 
 reverse-typed : (rs : List Raw) (h : History) → AllTyped rs → AllTyped h → AllTyped (reverseAux rs h)
 reverse-typed [] h t u = u
 reverse-typed (r ∷ rs) h t u = reverse-typed rs (r ∷ h) (t .1) (t .0, u)
 
 pub image-typed : (l : List ℕ) → Bytes l → AllTyped (historyIn l)
-image-typed l h = reverse-typed (map rawIn (recordsIn l)) [] (decoded-typed (countIn l) (drop 24 l) (bytes-drop 24 l h)) tt
+image-typed l h = reverse-typed (map rawIn (recordsIn l)) [] (decoded-typed (countIn l) (drop recordBytes l) (bytes-drop recordBytes l h)) tt
 
 pub trips : Trips
 trips =
     record {
-      image = image-kept;
-      saved-loads = λ cs t. saved _ _ (keeps-calls freshBook [] (agreement .fresh) cs) t;
-      loaded-saves = λ l h e. image-kept _ _ (loaded-kept l e) ∙ image-again l h e;
+      image = λ b h w. image-kept w;
+      saved-loads = λ cs t. saved _ _ (calls-same (agreement .fresh) cs .0) t;
+      loaded-saves = λ l h e. image-kept (loaded-kept l e) ∙ image-again l h e;
       loaded-posted = loaded-posted;
       loaded-kept = loaded-kept;
-      loaded-on = λ l e cs t. saved _ _ (keeps-calls (loadOf l .book) (historyIn l) (loaded-kept l e) cs) t;
+      loaded-on = λ l e cs t. saved _ _ (calls-same (loaded-kept l e) cs .0) t;
     }

@@ -8,7 +8,7 @@ use lib.Dec.{eqb}
 use Rattle.measures.specs.Cents.{cents}
 use Rattle.measures.specs.Days.{day}
 use Rattle.entries.specs.Kinds.{kindOf}
-use Rattle.entries.specs.Entries.{metres, noEntry, entryOf}
+use Rattle.entries.specs.Data.{metres, noEntry, entryOf}
 use Rattle.entries.specs.declared.raw.Raw.{Raw}
 use Rattle.entries.specs.declared.kinds.Kind.{Kind}
 use Rattle.entries.specs.declared.kinds.Kind.the-variants as kind
@@ -18,9 +18,10 @@ use Rattle.entries.specs.declared.data.Data.the-variants as data′
 use Rattle.rules.specs.Accounts.{accountOf}
 use Rattle.rules.specs.declared.accounts.Account.{Account}
 use Rattle.book.specs.Fresh.{freshBook}
+use Rattle.book.specs.Chain.{Link}
 use Rattle.book.specs.Posting.{accountAt, postOf}
 use Rattle.book.specs.declared.Book.{Book}
-use Rattle.queries.specs.Chain.{chainAt}
+use Rattle.queries.specs.Chain.{walkAt}
 use Rattle.history.specs.History.{History, lastSerial, Fate, fate, Balance, balance, accounts, entries, toArrears, refundsPaid, offer, repliedOf}
 use Rattle.history.specs.Laws.{Valid}
 use Rattle.history.specs.Images.{newestOf}
@@ -49,10 +50,14 @@ dataIn all e = keptData (kindOf (e .kind)) e (fate all e) (toArrears all e) (ref
 abbrev pub keptEntry : History → History → Raw → Entry
 keptEntry all h e = entryOf e (newestOf h (e .account)) (dataIn all e)
 
+-- with its place
+abbrev pub keptLink : History → History → Raw → Link
+keptLink all h e = record { place = length h; entry = keptEntry all h e }
+
 -- each entry stands at the place of its number
-pub data Rows (all : History) (es : List Entry) : History → Type 0 where
-  start : Rows all es []
-  more : {e : Raw} {h : History} → getD es (length h) noEntry ≡ keptEntry all h e → Rows all es h → Rows all es (e ∷ h)
+pub data Placed (all : History) (es : List Entry) : History → Type 0 where
+  start : Placed all es []
+  more : {e : Raw} {h : History} → getD es (length h) noEntry ≡ keptEntry all h e → Placed all es h → Placed all es (e ∷ h)
 
 -- The book keeps the history's arrears, credit, deposits, last serials and entries, each number as it is.
 pub record Agrees (b : Book) (h : History) : Type 0 where
@@ -62,22 +67,22 @@ pub record Agrees (b : Book) (h : History) : Type 0 where
   pub last-1 : b .last .«node_1» ≡ lastSerial h 1
   pub last-2 : b .last .«node_2» ≡ lastSerial h 2
   pub account : (a : ℕ) → 1 ≤ a → a ≤ accounts → accountAt b a ≡ keptAccount (balance h a) (newestOf h a)
-  pub rows : Rows h (b .entries) h
+  pub rows : Placed h (b .entries) h
   -- places past the count are unused
   pub unused : (i : ℕ) → length h ≤ i → getD (b .entries) i noEntry ≡ noEntry
 
 -- an account's entries, newest first, as the book keeps them
-unfoldable pub keptChain : History → History → ℕ → List Entry
-keptChain all [] account = []
-keptChain all (e ∷ h) account =
-    cond (eqb (e .account) account) (keptEntry all h e ∷ keptChain all h account) (keptChain all h account)
+unfoldable pub keptWalk : History → History → ℕ → List Link
+keptWalk all [] account = []
+keptWalk all (e ∷ h) account =
+    cond (eqb (e .account) account) (keptLink all h e ∷ keptWalk all h account) (keptWalk all h account)
 
 -- a book that agrees with a history whose every entry passed the judge
 pub record Kept (b : Book) (h : History) : Type 0 where
   pub agrees : Agrees b h
   pub valid : Valid h
 
--- proofs/Agree.antt shows it
+-- proofs/Agreement.antt shows it
 pub record Agreement : Type 0 where
   -- a fresh book agrees with the empty history
   pub fresh : Kept freshBook []
@@ -86,7 +91,7 @@ pub record Agreement : Type 0 where
   -- the next book agrees with the next history
   pub posted : (b : Book) (h : History) → Kept b h → (r : Raw) → Kept (postOf b r .book) (offer h r)
   -- an account's chain is its entries, newest first
-  pub chain : (b : Book) (h : History) → Kept b h → (a : ℕ) → 1 ≤ a → a ≤ accounts → chainAt b a ≡ keptChain h h a
+  pub chain : (b : Book) (h : History) → Kept b h → (a : ℕ) → 1 ≤ a → a ≤ accounts → walkAt b a ≡ keptWalk h h a
 
 -- A history determines the book that keeps it: proofs/Determined.antt shows it.
 abbrev pub Determined : Type 0

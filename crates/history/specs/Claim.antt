@@ -1,47 +1,45 @@
 -- Demand 3: one claim about a list of calls as a whole.
 use Prim.Native.Nat.{ℕ, _≤_}
 use mathlib.Core.Path.{_≡_}
-use mathlib.Core.List.{List, foldl}
+use mathlib.Core.List.{List}
 use Rattle.book.specs.Fresh.{freshBook}
 use Rattle.book.specs.Posting.{accountAt, postOf}
 use Rattle.book.specs.declared.Book.{Book}
 use Rattle.queries.specs.Chain.{chainAt, totalOf}
 use Rattle.queries.specs.Chain as chains
-use Rattle.queries.specs.Statement.{statementOf}
-use Rattle.queries.specs.Contribution.{contributionQueryOf}
-use Rattle.image.specs.Saves.{saveOf, savedIn}
-use Rattle.history.specs.History.{accounts, along, balance, entriesOf, total, heldOf}
+use Rattle.queries.specs.Statements.{statementOf}
+use Rattle.queries.specs.Contributions.{contributionQueryOf}
+use Rattle.saves.specs.Saves.{saveOf, savedIn}
+use Rattle.history.specs.History.{accounts, after, answersAlong, balance, entriesOf, total, heldAmount}
 use Rattle.history.specs.Laws.{Lawful, Bounded}
 use Rattle.history.specs.Agreement.{Kept}
 use Rattle.carry.specs.Carry.{carryRefusalOf, carryBookOf, carryResultsOf}
-use Rattle.history.specs.Calls.{Call, posting, carryOver, statement, contribution, save, Answer, posted, carried, stated, given, saved, answersIn, historyOf}
+use Rattle.history.specs.Queries.{Query, statement, contribution, save, QueryAnswer, stated, given, saved}
+use Rattle.history.specs.Calls.{Call, posting, carryOver, query, CallAnswer, posted, carried, queried, answersIn, historyOf}
+
+-- the queries on a book
+unfoldable pub queryOf : Book → Query → QueryAnswer
+queryOf b (statement account allowance) = stated (statementOf b account allowance)
+queryOf b (contribution account node serial) = given (contributionQueryOf b account node serial)
+queryOf b (save buffer) = saved (saveOf b buffer .refusal) (saveOf b buffer .bytes) (savedIn b buffer)
 
 -- the calls on a book: the next book, and the answer
-unfoldable pub callBook : Book → Call → Book
-callBook b (posting r) = postOf b r .book
-callBook b (carryOver rs results) = carryBookOf b rs results
-callBook b (statement account allowance) = b
-callBook b (contribution account node serial) = b
-callBook b (save buffer) = b
-
-unfoldable pub callAnswer : Book → Call → Answer
-callAnswer b (posting r) = posted (postOf b r .reply)
-callAnswer b (carryOver rs results) = carried (carryRefusalOf rs results) (carryResultsOf b rs results)
-callAnswer b (statement account allowance) = stated (statementOf b account allowance)
-callAnswer b (contribution account node serial) = given (contributionQueryOf b account node serial)
-callAnswer b (save buffer) = saved (saveOf b buffer .refusal) (saveOf b buffer .bytes) (savedIn b buffer)
+unfoldable pub callOf : Book → Call → Book × CallAnswer
+callOf b (posting r) = (postOf b r .book, posted (postOf b r .reply))
+callOf b (carryOver rs results) = (carryBookOf b rs results, carried (carryRefusalOf rs results) (carryResultsOf b rs results))
+callOf b (query q) = (b, queried (queryOf b q))
 
 abbrev pub bookAfter : Book → List Call → Book
-bookAfter b cs = foldl callBook b cs
+bookAfter b cs = after callOf b cs
 
 -- the book that a list of calls makes of a fresh one, and the answers
 abbrev pub bookOf : List Call → Book
 bookOf cs = bookAfter freshBook cs
 
-abbrev pub answersOf : List Call → List Answer
-answersOf cs = along callBook callAnswer freshBook cs
+abbrev pub answersOf : List Call → List CallAnswer
+answersOf cs = answersAlong callOf freshBook cs
 
-pub record Right (cs : List Call) : Type 0 where
+pub record Claim (cs : List Call) : Type 0 where
   -- Every answer in the list is the history's at that point: an offered entry's refusal number is 0 exactly when it joins; which
   -- calls are refused, which statements are complete and an accepted posting's four amounts; and what every accepted statement,
   -- contribution query and save gives, a save's buffer among it.
@@ -53,7 +51,7 @@ pub record Right (cs : List Call) : Type 0 where
   -- its amounts held: the deposit
   pub deposit : (a : ℕ) → 1 ≤ a → a ≤ accounts → accountAt (bookOf cs) a .deposit .0 ≡ balance (historyOf cs) a .deposit
   -- and what is held of the account's contributions
-  pub held : (a : ℕ) → 1 ≤ a → a ≤ accounts → totalOf chains.heldOf (chainAt (bookOf cs) a) ≡ total heldOf (historyOf cs) (entriesOf (historyOf cs) a)
+  pub held : (a : ℕ) → 1 ≤ a → a ≤ accounts → totalOf chains.heldOf (chainAt (bookOf cs) a) ≡ total heldAmount (historyOf cs) (entriesOf (historyOf cs) a)
   -- it keeps the history's entries, chains and last serials too
   pub kept : Kept (bookOf cs) (historyOf cs)
   -- the claims of the history: sums, contributions, refunds with their days, corrections
@@ -63,4 +61,4 @@ pub record Right (cs : List Call) : Type 0 where
 
 -- proofs/Claim.antt shows it
 abbrev pub Demand3 : Type 0
-Demand3 = (cs : List Call) → Right cs
+Demand3 = (cs : List Call) → Claim cs

@@ -12,8 +12,8 @@ use Rattle.entries.specs.declared.kinds.Kind.{Kind}
 use Rattle.entries.specs.declared.kinds.Kind.the-variants as kind
 use Rattle.rules.specs.Formulas.{billed, refund, interest}
 use Rattle.rules.specs.Moves.{settles, leaves, covers, owes}
-use Rattle.rules.specs.Answers.{reply}
-use Rattle.rules.specs.declared.answers.Reply.{Reply}
+use Rattle.rules.specs.Answers.{postingReply}
+use Rattle.rules.specs.declared.answers.PostingReply.{PostingReply}
 
 -- 128 accounts and 1,024 entries are facts of every book
 abbrev pub accounts : ℕ
@@ -22,13 +22,17 @@ accounts = 128
 abbrev pub entries : ℕ
 entries = 1024
 
+-- 2099-12-31
+abbrev pub lastDay : ℕ
+lastDay = 36524
+
 -- the days from a contribution on in which added customers bring refunds
-abbrev pub period : ℕ
-period = 1826
+abbrev pub refundPeriod : ℕ
+refundPeriod = 1826
 
 -- the first day on which a contribution e brings none any more
 abbrev pub periodEnd : Raw → ℕ
-periodEnd e = e .day + period
+periodEnd e = e .day + refundPeriod
 
 -- the list, newest first: document 01's end of the list is the head here
 abbrev pub History : Type 0
@@ -56,17 +60,17 @@ unfoldable pub names : Raw → Raw → Bool
 names c e = naming (kindOf (c .kind)) && points c e
 
 -- what a search ends in: the entry, with the number of entries that are older
-pub data Sought : Type 0 where
-  missing : Sought
-  found : ℕ → Raw → Sought
+pub data Target : Type 0 where
+  absent : Target
+  present : ℕ → Raw → Target
 
-unfoldable pub find : History → Raw → Sought
-find [] c = missing
-find (e ∷ h) c = cond (points c e) (found (length h) e) (find h c)
+unfoldable pub find : History → Raw → Target
+find [] c = absent
+find (e ∷ h) c = cond (points c e) (present (length h) e) (find h c)
 
 -- the entry that c names; none where its kind names none
-unfoldable pub named : History → Raw → Sought
-named h c = cond (naming (kindOf (c .kind))) (find h c) missing
+unfoldable pub named : History → Raw → Target
+named h c = cond (naming (kindOf (c .kind))) (find h c) absent
 
 -- What became of an entry.
 pub record Fate : Type 0 where
@@ -82,43 +86,39 @@ fateOf held retained added closed standing corrected =
     record { held = held; retained = retained; added = added; closed = closed; standing = standing; corrected = corrected }
 
 -- 1: held = amount; the standing amount is first the billed amount of a bill, or the amount of a payment
-abbrev pub posted : Raw → Fate
-posted e = fateOf (e .amount) 0 0 false (cond (sameOf (kindOf (e .kind)) kind.Bill) (billed (e .amount) (e .b) (e .a)) (e .amount)) false
+abbrev pub postedFate : Raw → Fate
+postedFate e = fateOf (e .amount) 0 0 false (cond (sameOf (kindOf (e .kind)) kind.Bill) (billed (e .amount) (e .b) (e .a)) (e .amount)) false
 
 -- the refund that an added customer c brings to a contribution e
-abbrev pub refundOf : Raw → Raw → Fate → ℕ
-refundOf c e f = refund (f .held) (e .amount) (c .a) (e .a) (f .added)
+abbrev pub refundBy : Raw → Raw → Fate → ℕ
+refundBy c e f = refund (f .held) (e .amount) (c .a) (e .a) (f .added)
 
 -- What c, of a kind, makes of the entry e that it names. 2: held falls by the refund. 7: retained = held; held = 0; the
 -- contribution is closed. 8: the standing amount becomes the new one.
-abbrev pub change : Kind → Raw → Raw → Fate → Fate
-change kind.Unknown c e f = f
-change kind.Contribution c e f = f
-change kind.AddedCustomer c e f = fateOf (f .held - refundOf c e f) (f .retained) (f .added + 1) (f .closed) (f .standing) (f .corrected)
-change kind.Bill c e f = f
-change kind.Payment c e f = f
-change kind.Deposit c e f = f
-change kind.DepositReturn c e f = f
-change kind.Expiry c e f = fateOf 0 (f .held) (f .added) true (f .standing) (f .corrected)
-change kind.Correction c e f = fateOf (f .held) (f .retained) (f .added) (f .closed) (c .amount) true
+abbrev pub fateAfter : Kind → Raw → Raw → Fate → Fate
+fateAfter k c e f =
+    cond (sameOf k kind.AddedCustomer) (fateOf (f .held - refundBy c e f) (f .retained) (f .added + 1) (f .closed) (f .standing) (f .corrected))
+    (cond (sameOf k kind.Expiry) (fateOf 0 (f .held) (f .added) true (f .standing) (f .corrected))
+    (cond (sameOf k kind.Correction) (fateOf (f .held) (f .retained) (f .added) (f .closed) (c .amount) true)
+    f))
 
 unfoldable pub fate : History → Raw → Fate
-fate [] e = posted e
-fate (c ∷ h) e = cond (names c e) (change (kindOf (c .kind)) c e (fate h e)) (fate h e)
+fate [] e = postedFate e
+fate (c ∷ h) e = cond (names c e) (fateAfter (kindOf (c .kind)) c e (fate h e)) (fate h e)
 
 -- an entry of which only the account and what it names are set
-abbrev pub asking : ℕ → ℕ → ℕ → Raw
-asking account node serial =
+abbrev pub pointerTo : ℕ → ℕ → ℕ → Raw
+pointerTo account node serial =
     record { kind = 0; node = 0; account = account; day = 0; serial = 0; amount = 0; «named_serial» = serial; a = 0; b = 0; «named_node» = node }
 
 -- the entry found and its fate; zeros where there is none
-abbrev pub entryIn : Sought → Raw
-entryIn missing = asking 0 0 0
-entryIn (found i e) = e
+abbrev pub targetEntry : Target → Raw
+targetEntry absent = pointerTo 0 0 0
+targetEntry (present i e) = e
 
-abbrev pub fateIn : History → Sought → Fate
-fateIn h missing = posted (asking 0 0 0)
-fateIn h (found i e) = fate h e
+abbrev pub targetFate : History → Target → Fate
+targetFate h absent = postedFate (pointerTo 0 0 0)
+targetFate h (present i e) = fate h e
 
 -- An account's amounts, with the rate and the day of the deposit held.
 pub record Balance : Type 0 where
@@ -132,45 +132,50 @@ abbrev pub balanceOf : ℕ → ℕ → ℕ → ℕ → ℕ → Balance
 balanceOf arrears credit deposit rate deposited =
     record { arrears = arrears; credit = credit; deposit = deposit; rate = rate; deposited = deposited }
 
--- Posting's moves, each with its amount.
+-- What an entry does to an account, with its amounts.
 pub data Move : Type 0 where
   stays : Move
-  charges : ℕ → Move
-  credits : ℕ → Move  -- what is left over goes to credit
+  restates : ℕ → ℕ → Move  -- what is owed goes from the first to the second
   refunds : ℕ → Move  -- a credit of which what is left over is paid out
   deposits : ℕ → ℕ → ℕ → Move  -- with rate and day
   returns : ℕ → Move  -- the interest; it and the deposit are credited together, and what is left over is paid out
   retains : ℕ → Move
 
--- what is owed goes from x to y
-abbrev pub restates : ℕ → ℕ → Move
-restates x y = cond (leb x y) (charges (y - x)) (credits (x - y))
+-- to charge x, and to credit x, what is left over going to credit
+abbrev pub charges : ℕ → Move
+charges x = restates 0 x
 
--- what an entry r, of a kind, does to an account; e and f are the entry that it names and its fate.
+abbrev pub credits : ℕ → Move
+credits x = restates x 0
+
+-- what an entry r, of kind k, does to an account; e, of kind l, and f are the entry that it names and its fate.
 -- A correction: a bill that grows, or a payment that shrinks, charges the difference; the others credit it.
-abbrev pub moveOf : Kind → Raw → Balance → Raw → Fate → Move
-moveOf kind.Unknown r b e f = stays
-moveOf kind.Contribution r b e f = stays
-moveOf kind.AddedCustomer r b e f = refunds (refundOf r e f)
-moveOf kind.Bill r b e f = charges (billed (r .amount) (r .b) (r .a))
-moveOf kind.Payment r b e f = credits (r .amount)
-moveOf kind.Deposit r b e f = deposits (r .amount) (r .a) (r .day)
-moveOf kind.DepositReturn r b e f = returns (interest (b .deposit) (b .rate) (r .day - b .deposited))
-moveOf kind.Expiry r b e f = retains (f .held)
-moveOf kind.Correction r b e f =
-    cond (sameOf (kindOf (e .kind)) kind.Bill) (restates (f .standing) (r .amount)) (restates (r .amount) (f .standing))
+abbrev pub moveOf : Kind → Kind → Raw → Balance → Raw → Fate → Move
+moveOf kind.Unknown l r b e f = stays
+moveOf kind.Contribution l r b e f = stays
+moveOf kind.AddedCustomer l r b e f = refunds (refundBy r e f)
+moveOf kind.Bill l r b e f = charges (billed (r .amount) (r .b) (r .a))
+moveOf kind.Payment l r b e f = credits (r .amount)
+moveOf kind.Deposit l r b e f = deposits (r .amount) (r .a) (r .day)
+moveOf kind.DepositReturn l r b e f = returns (interest (b .deposit) (b .rate) (r .day - b .deposited))
+moveOf kind.Expiry l r b e f = retains (f .held)
+moveOf kind.Correction l r b e f =
+    let bill = sameOf l kind.Bill in restates (cond bill (f .standing) (r .amount)) (cond bill (r .amount) (f .standing))
 
+-- The account's amounts afterwards. `restates x y` charges y - x and credits x - y, what is left over going to credit; at least one of
+-- the two is 0, and moves nothing.
 abbrev pub moved : Move → Balance → Balance
 moved stays b = b
-moved (charges x) b = balanceOf (b .arrears + owes x (b .credit)) (b .credit - covers x (b .credit)) (b .deposit) (b .rate) (b .deposited)
-moved (credits x) b = balanceOf (b .arrears - settles x (b .arrears)) (b .credit + leaves x (b .arrears)) (b .deposit) (b .rate) (b .deposited)
+moved (restates x y) b =
+    balanceOf (b .arrears + owes (y - x) (b .credit) - settles (x - y) (b .arrears)) (b .credit - covers (y - x) (b .credit) + leaves (x - y) (b .arrears))
+    (b .deposit) (b .rate) (b .deposited)
 moved (refunds x) b = balanceOf (b .arrears - settles x (b .arrears)) (b .credit) (b .deposit) (b .rate) (b .deposited)
 moved (deposits x rate day) b = balanceOf (b .arrears) (b .credit) x rate day
 moved (returns i) b = balanceOf (b .arrears - settles (b .deposit + i) (b .arrears)) (b .credit) 0 0 0
 moved (retains x) b = b
 
 unfoldable pub moveBy : History → Raw → Balance → Move
-moveBy h r b = moveOf (kindOf (r .kind)) r b (entryIn (named h r)) (fateIn h (named h r))
+moveBy h r b = let e = targetEntry (named h r) in moveOf (kindOf (r .kind)) (kindOf (e .kind)) r b e (targetFate h (named h r))
 
 unfoldable pub balance : History → ℕ → Balance
 balance [] account = balanceOf 0 0 0 0 0
@@ -183,44 +188,43 @@ pub record Amounts : Type 0 where
   pub retained : ℕ
   pub interest : ℕ
 
-abbrev pub four : ℕ → ℕ → ℕ → ℕ → Amounts
-four settled paidOut retained interest = record { settled = settled; paidOut = paidOut; retained = retained; interest = interest }
+abbrev pub fourAmounts : ℕ → ℕ → ℕ → ℕ → Amounts
+fourAmounts settled paidOut retained interest = record { settled = settled; paidOut = paidOut; retained = retained; interest = interest }
 
-abbrev pub answered : Move → Balance → Amounts
-answered stays b = four 0 0 0 0
-answered (charges x) b = four 0 0 0 0
-answered (credits x) b = four (settles x (b .arrears)) 0 0 0
-answered (refunds x) b = four (settles x (b .arrears)) (leaves x (b .arrears)) 0 0
-answered (deposits x rate day) b = four 0 0 0 0
-answered (returns i) b = four (settles (b .deposit + i) (b .arrears)) (leaves (b .deposit + i) (b .arrears)) 0 i
-answered (retains x) b = four 0 0 x 0
+abbrev pub amountsBy : Move → Balance → Amounts
+amountsBy stays b = fourAmounts 0 0 0 0
+amountsBy (restates x y) b = fourAmounts (settles (x - y) (b .arrears)) 0 0 0
+amountsBy (refunds x) b = fourAmounts (settles x (b .arrears)) (leaves x (b .arrears)) 0 0
+amountsBy (deposits x rate day) b = fourAmounts 0 0 0 0
+amountsBy (returns i) b = fourAmounts (settles (b .deposit + i) (b .arrears)) (leaves (b .deposit + i) (b .arrears)) 0 i
+amountsBy (retains x) b = fourAmounts 0 0 x 0
 
--- of an entry that joins a history
+-- those of an entry that joins a history
 unfoldable pub amounts : History → Raw → Amounts
-amounts h r = let b = balance h (r .account) in answered (moveBy h r b) b
+amounts h r = let b = balance h (r .account) in amountsBy (moveBy h r b) b
 
 -- Refused, in checking order: a rule that is broken or not, and its number.
-pub record Row : Type 0 where
+pub record Rule : Type 0 where
   pub broken : Bool
   pub number : ℕ
 
 infix 10 _⇒_
-abbrev pub _⇒_ : Bool → ℕ → Row
+abbrev pub _⇒_ : Bool → ℕ → Rule
 b ⇒ n = record { broken = b; number = n }
 
 -- the number of the first rule that is broken, 0 where none is
-abbrev pub firstOf : List Row → ℕ
-firstOf [] = 0
-firstOf (x ∷ xs) = cond (x .broken) (x .number) (firstOf xs)
+abbrev pub firstBroken : List Rule → ℕ
+firstBroken [] = 0
+firstBroken (x ∷ xs) = cond (x .broken) (x .number) (firstBroken xs)
 
 -- e and f are the entry that r names and its fate, b is the balance of r's account
-abbrev pub refusals : History → Raw → Kind → Raw → Fate → Balance → List Row
+abbrev pub refusals : History → Raw → Kind → Raw → Fate → Balance → List Rule
 refusals h r k e f b =
     let l = kindOf (e .kind) in
     (sameOf k kind.Unknown ⇒ 1) ∷
     (not (between (r .node) 1 2) ⇒ 2) ∷
     (not (between (r .account) 1 accounts) ⇒ 3) ∷
-    (ltb 36524 (r .day) ⇒ 4) ∷
+    (ltb lastDay (r .day) ⇒ 4) ∷
     (not (inRangeOf r k) ⇒ 5) ∷
     (leb (r .serial) (lastSerial h (r .node)) ⇒ 6) ∷
     (leb entries (length h) ⇒ 7) ∷
@@ -236,7 +240,7 @@ refusals h r k e f b =
 
 -- the refusal of an offered entry, read against the history so far; 0 where it joins
 unfoldable pub judge : History → Raw → ℕ
-judge h r = firstOf (refusals h r (kindOf (r .kind)) (entryIn (named h r)) (fateIn h (named h r)) (balance h (r .account)))
+judge h r = firstBroken (refusals h r (kindOf (r .kind)) (targetEntry (named h r)) (targetFate h (named h r)) (balance h (r .account)))
 
 -- an entry that a refusal stops adds nothing; every other joins
 abbrev pub joined : ℕ → Raw → History → History
@@ -249,26 +253,32 @@ offer h r = joined (judge h r) r h
 abbrev pub offers : History → List Raw → History
 offers h rs = foldl offer h rs
 
--- what each of a list is answered at its point, where `step` gives the next state
-abbrev pub along : {S A B : Type 0} → (S → A → S) → (S → A → B) → S → List A → List B
-along step answer s [] = []
-along step answer s (x ∷ xs) = answer s x ∷ along step answer (step s x) xs
+-- where `step` gives the next state and an answer: the state after a list, and what each of it is answered at its point
+abbrev pub after : {S A B : Type 0} → (S → A → S × B) → S → List A → S
+after step s xs = foldl (λ s x. step s x .0) s xs
+
+abbrev pub answersAlong : {S A B : Type 0} → (S → A → S × B) → S → List A → List B
+answersAlong step s [] = []
+answersAlong step s (x ∷ xs) = step s x .1 ∷ answersAlong step (step s x .0) xs
 
 -- refused: the number and otherwise zeros; accepted: the entry's number and the four amounts
-abbrev pub repliedBy : ℕ → ℕ → Amounts → Reply
-repliedBy zero number x = reply 0 number (x .settled) (x .paidOut) (x .retained) (x .interest)
-repliedBy (suc n) number x = reply (suc n) 0 0 0 0 0
+abbrev pub repliedBy : ℕ → ℕ → Amounts → PostingReply
+repliedBy zero number x = postingReply 0 number (x .settled) (x .paidOut) (x .retained) (x .interest)
+repliedBy (suc n) number x = postingReply (suc n) 0 0 0 0 0
 
-unfoldable pub repliedOf : History → Raw → Reply
+unfoldable pub repliedOf : History → Raw → PostingReply
 repliedOf h r = repliedBy (judge h r) (length h + 1) (amounts h r)
 
 -- in a carry-over each entry is offered in turn; its refusal number, or 0, goes to the same place of the result list
 abbrev pub verdicts : History → List Raw → List ℕ
-verdicts h rs = along offer judge h rs
+verdicts h rs = answersAlong (λ h r. (offer h r, judge h r)) h rs
 
 -- refusal 22: the result list is shorter than the entries; none is offered, and the list is unchanged
 abbrev pub tooShort : List Raw → List ℕ → Bool
 tooShort rs results = ltb (length results) (length rs)
+
+abbrev pub resultsRefusal : List Raw → List ℕ → ℕ
+resultsRefusal rs results = cond (tooShort rs results) 22 0
 
 abbrev pub carryOffers : History → List Raw → List ℕ → History
 carryOffers h rs results = cond (tooShort rs results) h (offers h rs)
@@ -304,25 +314,25 @@ amountOf l k e f = cond (sameOf k l) (e .amount) 0
 abbrev pub standingAmount : Kind → Reading
 standingAmount l k e f = cond (sameOf k l) (f .standing) 0
 
-abbrev pub heldOf : Reading
-heldOf k e f = cond (sameOf k kind.Contribution) (f .held) 0
+abbrev pub heldAmount : Reading
+heldAmount k e f = cond (sameOf k kind.Contribution) (f .held) 0
 
--- interest, paid out and retained are added up posting by posting
-unfoldable pub addedUp : (Amounts → ℕ) → History → ℕ → ℕ
-addedUp f [] account = 0
-addedUp f (r ∷ h) account = cond (eqb (r .account) account) (f (amounts h r)) 0 + addedUp f h account
+-- interest, paid out, retained and refunds are added up posting by posting, over the entries that pass a test
+unfoldable pub addedUp : (Amounts → ℕ) → (Raw → Bool) → History → ℕ
+addedUp f test [] = 0
+addedUp f test (r ∷ h) = cond (test r) (f (amounts h r)) 0 + addedUp f test h
 
--- what the added customers of a contribution e settle are its refunds to arrears, what they leave over its refunds paid out
-unfoldable pub ofCustomers : (Amounts → ℕ) → History → Raw → ℕ
-ofCustomers f [] e = 0
-ofCustomers f (c ∷ h) e = cond (sameOf (kindOf (c .kind)) kind.AddedCustomer && points c e) (f (amounts h c)) 0 + ofCustomers f h e
+-- the added customers of a contribution e are those that point at it
+abbrev pub customerOf : Raw → Raw → Bool
+customerOf e c = sameOf (kindOf (c .kind)) kind.AddedCustomer && points c e
 
+-- what they settle are its refunds to arrears, what they leave over its refunds paid out
 abbrev pub toArrears : History → Raw → ℕ
-toArrears h e = ofCustomers (λ (x : Amounts). x .settled) h e
+toArrears h e = addedUp (λ (x : Amounts). x .settled) (customerOf e) h
 
 abbrev pub refundsPaid : History → Raw → ℕ
-refundsPaid h e = ofCustomers (λ (x : Amounts). x .paidOut) h e
+refundsPaid h e = addedUp (λ (x : Amounts). x .paidOut) (customerOf e) h
 
--- the customers added to e are the added customers that point at it, counted
+-- they are counted
 abbrev pub customers : History → Raw → ℕ
-customers h e = ofCustomers (λ (x : Amounts). 1) h e
+customers h e = addedUp (λ (x : Amounts). 1) (customerOf e) h

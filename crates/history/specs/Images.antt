@@ -5,7 +5,7 @@ use mathlib.Core.List.{List, [], _∷_, _++_}
 use lib.ListN.{length, drop}
 use lib.Dec.{eqb, ltb}
 use Rattle.entries.specs.declared.raw.Raw.{Raw}
-use Rattle.codec.specs.Records.{InRange, encodeAll}
+use Rattle.codec.specs.Records.{FieldsFit, encodeAll}
 use Rattle.codec.specs.Headers.{headerOf}
 use Rattle.codec.specs.declared.Record.{Record}
 use Rattle.history.specs.History.{History}
@@ -41,7 +41,7 @@ savedBy h buffer = cond (shortIn h buffer) buffer (imageIn h ++ drop (bytesIn h)
 
 -- what every value of the type satisfies: each field is below 2^8, 2^16 or 2^32
 abbrev pub Typed : Raw → Type 0
-Typed r = InRange (record { raw = r; next = 0 })
+Typed r = FieldsFit (record { raw = r; next = 0 })
 
 abbrev pub AllTyped : List Raw → Type 0
 AllTyped [] = Unit {0}

@@ -7,7 +7,7 @@ use lib.ListN.{length}
 use Rattle.entries.specs.Kinds.{kindOf}
 use Rattle.entries.specs.declared.raw.Raw.{Raw}
 use Rattle.entries.specs.declared.kinds.Kind.the-variants as kind
-use Rattle.history.specs.History.{History, Amounts, entries, periodEnd, points, fate, Balance, balance, amounts, judge, offers, entriesOf, Reading, total, amountOf, standingAmount, heldOf, addedUp, toArrears, refundsPaid, customers}
+use Rattle.history.specs.History.{History, Amounts, entries, periodEnd, points, fate, Balance, balance, amounts, judge, offers, onAccount, entriesOf, Reading, total, amountOf, standingAmount, heldAmount, addedUp, toArrears, refundsPaid, customers}
 
 -- the histories that offers give: no refusal stopped any entry, read against those before it
 pub data Valid : History → Type 0 where
@@ -20,7 +20,7 @@ pub data In (e : Raw) : History → Type 0 where
   older : {r : Raw} {h : History} → In e h → In e (r ∷ h)
 
 -- An account's sums over its entries and posting by posting, and its amounts as the last entry leaves them.
-pub record Sums : Type 0 where
+pub record AccountSums : Type 0 where
   pub contributions : ℕ
   pub payments : ℕ
   pub deposits : ℕ
@@ -34,7 +34,7 @@ pub record Sums : Type 0 where
   pub credit : ℕ
 
 -- from a sum over entries of what is read off each, one posting by posting of an amount, and the balance
-abbrev pub sumsBy : (Reading → ℕ) → ((Amounts → ℕ) → ℕ) → Balance → Sums
+abbrev pub sumsBy : (Reading → ℕ) → ((Amounts → ℕ) → ℕ) → Balance → AccountSums
 sumsBy sum added b =
     record {
       contributions = sum (amountOf kind.Contribution);
@@ -45,17 +45,17 @@ sumsBy sum added b =
       bills = sum (standingAmount kind.Bill);
       paidOut = added (λ x. x .paidOut);
       retained = added (λ x. x .retained);
-      held = sum heldOf;
+      held = sum heldAmount;
       deposit = b .deposit;
       credit = b .credit;
     }
 
-abbrev pub sumsOf : History → ℕ → Sums
-sumsOf h a = sumsBy (λ f. total f h (entriesOf h a)) (λ f. addedUp f h a) (balance h a)
+abbrev pub sumsOf : History → ℕ → AccountSums
+sumsOf h a = sumsBy (λ f. total f h (entriesOf h a)) (λ f. addedUp f (onAccount a) h) (balance h a)
 
 -- Contributions, payments, deposits, interest and arrears together are bills, paid out, retained, contributions held, deposit held
 -- and credit together.
-abbrev pub Conserved : Sums → Type 0
+abbrev pub Conserved : AccountSums → Type 0
 Conserved s =
     s .contributions + s .payments + s .deposits + s .interest + s .arrears
     ≡ s .bills + s .paidOut + s .retained + s .held + s .deposit + s .credit
@@ -126,7 +126,7 @@ pub record Bounded (h : History) : Type 0 where
   pub deposit : (a : ℕ) → balance h a .deposit ≤ amountBound
   pub added : (e : Raw) → fate h e .added ≤ entries
 
--- proofs/Lawful.antt shows them
+-- proofs/Laws.antt shows them
 pub record Laws : Type 0 where
   -- offers give such a history, whatever is offered
   pub valid : (rs : List Raw) → Valid (offers [] rs)

@@ -2,7 +2,6 @@ pub mod History
 pub mod Laws
 pub mod Images
 pub mod Agreement
-pub mod Carry
 pub mod Queries
 pub mod Calls
 pub mod Claim

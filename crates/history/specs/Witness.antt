@@ -2,13 +2,14 @@
 -- demand 3 speaks of them: each kind of entry joins, and no sum of it is always zero.
 use Prim.Native.Nat.{ℕ, min}
 use mathlib.Core.Path.{_≡_}
-use mathlib.Core.Bool.{true, false}
+use mathlib.Core.Bool.{Bool, true, false}
 use mathlib.Core.List.{List, [], _∷_, map}
 use Rattle.entries.specs.declared.raw.Raw.{Raw}
-use Rattle.rules.specs.Answers.{reply}
-use Rattle.history.specs.Laws.{Sums, sumsOf}
-use Rattle.history.specs.Queries.{statementReply, contributionReply}
-use Rattle.history.specs.Calls.{Call, posting, carryOver, statement, contribution, Answer, posted, carried, stated, given, answersIn, historyOf}
+use Rattle.rules.specs.Answers.{postingReply}
+use Rattle.queries.specs.Replies.{statementReply, contributionReply}
+use Rattle.history.specs.Laws.{AccountSums, sumsOf}
+use Rattle.history.specs.Queries as queries
+use Rattle.history.specs.Calls.{Call, posting, carryOver, query, CallAnswer, posted, carried, queried, answersIn, historyOf}
 
 -- kind, node, account, day, serial; amount, a, b; the serial of node 1's entry that it names, or 0
 abbrev entry : ℕ → ℕ → ℕ → ℕ → ℕ → ℕ → ℕ → ℕ → ℕ → Raw
@@ -27,21 +28,37 @@ entry kind node account day serial amount a b named =
     }
 
 -- the entry's number; arrears settled, paid out, retained, interest
-abbrev accepted : ℕ → ℕ → ℕ → ℕ → ℕ → Answer
-accepted number settled paidOut retained interest = posted (reply 0 number settled paidOut retained interest)
+abbrev accepted : ℕ → ℕ → ℕ → ℕ → ℕ → CallAnswer
+accepted number settled paidOut retained interest = posted (postingReply 0 number settled paidOut retained interest)
 
-abbrev refused : ℕ → Answer
-refused n = posted (reply n 0 0 0 0 0)
+abbrev refused : ℕ → CallAnswer
+refused n = posted (postingReply n 0 0 0 0 0)
 
-pub record Answered : Type 0 where
+-- account, allowance; arrears, credit, deposit held, held, links read, bills, payments, complete
+abbrev statement : ℕ → ℕ → Call
+statement account allowance = query (queries.statement account allowance)
+
+abbrev stated : ℕ → ℕ → ℕ → ℕ → ℕ → ℕ → ℕ → Bool → CallAnswer
+stated arrears credit deposit held links bills payments complete =
+    queried (queries.stated (statementReply 0 arrears credit deposit held links bills payments complete))
+
+-- account, node, serial; amount, to arrears, paid out, held, retained, customers added, closed
+abbrev contribution : ℕ → ℕ → ℕ → Call
+contribution account node serial = query (queries.contribution account node serial)
+
+abbrev given : ℕ → ℕ → ℕ → ℕ → ℕ → ℕ → Bool → CallAnswer
+given amount toArrears paidOut held retained added closed =
+    queried (queries.given (contributionReply 0 amount toArrears paidOut held retained added closed))
+
+pub record AnsweredCall : Type 0 where
   pub call : Call
-  pub answer : Answer
+  pub answer : CallAnswer
 
 infix 20 _gives_
-abbrev _gives_ : Call → Answer → Answered
+abbrev _gives_ : Call → CallAnswer → AnsweredCall
 c gives x = record { call = c; answer = x }
 
-abbrev pub witness : List Answered
+abbrev pub witness : List AnsweredCall
 witness =
     -- a contribution of 300,000 for 200 m of one phase, and a bill of 80,000 for its full period: arrears 80,000
     (posting (entry 1 1 1 100 1 300000 200 1 0) gives accepted 1 0 0 0 0) ∷
@@ -52,10 +69,8 @@ witness =
     (posting (entry 2 1 1 100 5 0 200 1 1) gives accepted 5 0 75000 0 0) ∷
     (posting (entry 2 1 1 100 6 0 200 1 1) gives accepted 6 0 50000 0 0) ∷
     (posting (entry 2 1 1 100 7 0 200 1 1) gives accepted 7 0 0 0 0) ∷
-    -- arrears, credit, deposit held, held; links read, bills, payments, complete
-    (statement 1 7 gives stated (statementReply 0 0 0 0 0 7 80000 0 true)) ∷
-    -- amount, to arrears, paid out, held, retained, customers added, closed
-    (contribution 1 1 1 gives given (contributionReply 0 300000 80000 220000 0 0 5 false)) ∷
+    (statement 1 7 gives stated 0 0 0 0 7 80000 0 true) ∷
+    (contribution 1 1 1 gives given 300000 80000 220000 0 0 5 false) ∷
     -- P6: a contribution on day 100, an expiry on 1,925, an added customer on 1,926; then added customers on 1,925
     (posting (entry 1 1 2 100 8 60000 100 1 0) gives accepted 8 0 0 0 0) ∷
     (posting (entry 7 1 2 1925 9 0 0 0 8) gives refused 13) ∷
@@ -68,37 +83,37 @@ witness =
     -- the expiry on 1,926 retains the rest; what is closed is not refunded, though the day is early
     (posting (entry 7 1 2 1926 13 0 0 0 8) gives accepted 13 0 0 44600 0) ∷
     (posting (entry 2 1 2 1925 14 0 20 1 8) gives refused 11) ∷
-    (contribution 2 1 8 gives given (contributionReply 0 60000 0 15400 0 44600 4 true)) ∷
+    (contribution 2 1 8 gives given 60000 0 15400 0 44600 4 true) ∷
     -- P11: a bill of 12,000; node 2's corrections to 10,000 and to 9,000 are carried over, with a result list of three places
     (posting (entry 3 1 3 100 14 12000 30 30 0) gives accepted 14 0 0 0 0) ∷
     (carryOver (entry 8 2 3 100 1 10000 0 0 14 ∷ entry 8 2 3 100 2 9000 0 0 14 ∷ []) (9 ∷ 9 ∷ 9 ∷ []) gives carried 0 (0 ∷ 16 ∷ 9 ∷ [])) ∷
-    (statement 3 1 gives stated (statementReply 0 10000 0 0 0 1 0 0 false)) ∷
-    (statement 3 2 gives stated (statementReply 0 10000 0 0 0 2 10000 0 true)) ∷
+    (statement 3 1 gives stated 10000 0 0 0 1 0 0 false) ∷
+    (statement 3 2 gives stated 10000 0 0 0 2 10000 0 true) ∷
     -- P9: a deposit of 30,000 at 520, returned after 365 days
     (posting (entry 5 1 4 100 15 30000 520 0 0) gives accepted 16 0 0 0 0) ∷
-    (statement 4 0 gives stated (statementReply 0 0 0 30000 0 0 0 0 false)) ∷
+    (statement 4 0 gives stated 0 0 30000 0 0 0 0 false) ∷
     (posting (entry 6 1 4 465 16 0 0 0 0) gives accepted 17 0 31560 0 1560) ∷
     -- P12: a payment of 10,000 and a bill of 6,000 leave credit 4,000; the payment is corrected to 1,000
     (posting (entry 4 1 5 100 17 10000 0 0 0) gives accepted 18 0 0 0 0) ∷
     (posting (entry 3 1 5 100 18 6000 30 30 0) gives accepted 19 0 0 0 0) ∷
-    (statement 5 2 gives stated (statementReply 0 0 4000 0 0 2 6000 10000 true)) ∷
+    (statement 5 2 gives stated 0 4000 0 0 2 6000 10000 true) ∷
     (posting (entry 8 1 5 100 19 1000 0 0 17) gives accepted 20 0 0 0 0) ∷
-    (statement 5 3 gives stated (statementReply 0 5000 0 0 0 3 6000 1000 true)) ∷
+    (statement 5 3 gives stated 5000 0 0 0 3 6000 1000 true) ∷
     -- a contribution of 1,000, a payment of 700 and a deposit of 500, which stay held, in credit and deposited
     (posting (entry 1 1 6 100 20 1000 10 1 0) gives accepted 21 0 0 0 0) ∷
     (posting (entry 4 1 6 100 21 700 0 0 0) gives accepted 22 0 0 0 0) ∷
     (posting (entry 5 1 6 100 22 500 0 0 0) gives accepted 23 0 0 0 0) ∷
-    (statement 6 3 gives stated (statementReply 0 0 700 500 1000 3 0 700 true)) ∷
+    (statement 6 3 gives stated 0 700 500 1000 3 0 700 true) ∷
     []
 
 abbrev pub calls : List Call
-calls = map (λ (x : Answered). x .call) witness
+calls = map (λ (x : AnsweredCall). x .call) witness
 
-abbrev pub answers : List Answer
-answers = map (λ (x : Answered). x .answer) witness
+abbrev pub answers : List CallAnswer
+answers = map (λ (x : AnsweredCall). x .answer) witness
 
 -- an account's sums after the list: contributions, payments, deposits, interest, arrears; bills, paid out, retained, held, deposit held, credit
-abbrev sums : ℕ → ℕ → ℕ → ℕ → ℕ → ℕ → ℕ → ℕ → ℕ → ℕ → ℕ → Sums
+abbrev sums : ℕ → ℕ → ℕ → ℕ → ℕ → ℕ → ℕ → ℕ → ℕ → ℕ → ℕ → AccountSums
 sums contributions payments deposits interest arrears bills paidOut retained held deposit credit =
     record {
       contributions = contributions;
@@ -114,7 +129,7 @@ sums contributions payments deposits interest arrears bills paidOut retained hel
       credit = credit;
     }
 
-abbrev pub summed : List Sums
+abbrev pub summed : List AccountSums
 summed =
     sums 300000 0 0 0 0 80000 220000 0 0 0 0 ∷
     sums 60000 0 0 0 0 0 15400 44600 0 0 0 ∷

@@ -1,3 +1,2 @@
 pub mod Decimal
-pub mod Buffers
-pub mod Text
+pub mod Lines

@@ -1,29 +1,16 @@
 // The statement printer's lines, each written into a lent buffer from a place on. What is given is the place after the line; where
 // the buffer has no room for the line, both stay as they were.
+use buffers::put;
 ghost use Prim.Native.Nat.{_+_, _*_, _≤_, _<_};
 ghost use mathlib.Core.Path.{_≡_};
 ghost use mathlib.Core.List.{_∷_, _++_};
 ghost use lib.ListN.{length, take};
 ghost use Rattle.lines.specs.Decimal.{digits};
 ghost use Rattle.lines.specs.Lines.{space, longestLine, lineOf, accountLine, endLine, refusedLine};
-ghost use Rattle.lines.specs.Buffers.{writtenAt};
+ghost use Rattle.buffers.specs.Buffers.{writtenAt};
 
 // No line is longer: `longestLine`.
-pub const LONGEST: usize = 128;
-
-// Writes a text over a buffer from a place on, where it has room, and gives the place after it.
-pub fn put(buf: &mut [u8], at: usize, text: &[u8]) -> usize
-    ensures { λ r. ⌜ (record { buffer = now (buf .exit); place = r }) ≡ writtenAt (now (text .entry)) at (now (buf .entry)) ⌝ }
-{
-    if buf.len() < at {
-        return at;
-    }
-    if buf.len() - at < text.len() {
-        return at;
-    }
-    let n = bytes::copy(text, &mut buf[at..]);
-    at + n
-}
+pub const LONGEST_LINE: usize = 128;
 
 // Puts a space and a number in decimal at a place of a text, and gives the place after it. A number has at most 20 digits.
 fn number(text: &mut [u8], at: usize, n: u64) -> usize
@@ -42,7 +29,7 @@ fn line(buf: &mut [u8], at: usize, word: &[u8], numbers: &[u64]) -> usize
     ensures { λ r. ⌜ (record { buffer = now (buf .exit); place = r }) ≡ writtenAt (lineOf (now (word .entry)) (now (numbers .entry))) at (now (buf .entry)) ⌝ }
     ensures { λ _. ⌜ length (lineOf (now (word .entry)) (now (numbers .entry))) ≤ longestLine ⌝ }
 {
-    let mut text = [0u8; LONGEST];
+    let mut text = [0u8; LONGEST_LINE];
     let mut n = put(&mut text, 0, word);
     let mut i = 0;
     while i < numbers.len() {

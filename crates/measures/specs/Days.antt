@@ -1,6 +1,10 @@
--- Days apart.
+-- Days.
 use Prim.Native.Nat.{ℕ, _-_}
 use Rattle.measures.specs.declared.Day.{Day}
+
+-- 2099-12-31
+abbrev pub lastDay : ℕ
+lastDay = 36524
 
 abbrev pub day : ℕ → Day
 day n = record { 0 = n }

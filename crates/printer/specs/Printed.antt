@@ -7,9 +7,9 @@ use Rattle.lines.specs.Lines.{longestLine, accountLine, endLine, refusedLine}
 use Rattle.book.specs.Fresh.{accountsMost}
 use Rattle.book.specs.Posting.{accountAt}
 use Rattle.book.specs.declared.Book.{Book}
-use Rattle.queries.specs.Statement.{statementOf}
+use Rattle.queries.specs.Statements.{statementOf}
 use Rattle.queries.specs.declared.statements.StatementReply.{StatementReply}
-use Rattle.image.specs.Loads.{LoadReply}
+use Rattle.replays.specs.Loaded.{LoadedReply}
 
 -- an account has entries exactly where the number of its newest entry is not 0
 abbrev pub hasEntries : Book → ℕ → Bool
@@ -30,7 +30,7 @@ abbrev pub bookLines : Book → List ℕ
 bookLines b = accountLines b accountsMost ++ endLine (b .count)
 
 -- a refusal writes only `refused`, number, record
-unfoldable pub printedOf : LoadReply → List ℕ
+unfoldable pub printedOf : LoadedReply → List ℕ
 printedOf l = cond (eqb (l .refusal) 0) (bookLines (l .book)) (refusedLine (l .refusal) (l .faulty))
 
 -- the bytes that every text has room in: those of a line for each account and of one line more

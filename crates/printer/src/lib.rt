@@ -1,21 +1,21 @@
 // What the statement printer writes.
 use book::Book;
 use book::slot;
-use image::LoadAnswer;
-use image::Loaded;
 use lines::account_line;
 use lines::end_line;
 use lines::refused_line;
+use loads::LoadAnswer;
+use loads::Loaded;
 use queries::statement;
 ghost use mathlib.Core.Path.{_≡_};
 ghost use mathlib.Core.List.{_++_};
 ghost use Prim.Native.Nat.{_≤_};
 ghost use lib.ListN.{length, drop};
-ghost use Rattle.image.specs.Loads.{loadedReply};
+ghost use Rattle.replays.specs.Loaded.{loadedReply};
 ghost use Rattle.printer.specs.Printed.{bookLines, printedOf, roomMost};
 
 // The bytes that every text has room in: a line for each account, and one line more.
-pub const ROOM: usize = (Book::ACCOUNTS + 1) * lines::LONGEST;
+pub const ROOM: usize = (Book::ACCOUNTS + 1) * lines::LONGEST_LINE;
 
 // Writes a line for each account with entries, ascending, and the end line, and gives their length.
 fn print_book(book: Book, text: &mut [u8]) -> usize

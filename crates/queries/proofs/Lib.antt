@@ -1,3 +1,2 @@
-pub mod Chain
 pub mod Walk
-pub mod Given
+pub mod StatementsLaws

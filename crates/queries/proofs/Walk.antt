@@ -12,7 +12,7 @@ use borrow.Author.Tests.{leb-true, leb-false, le-leb, lt-leb}
 use Rattle.measures.specs.Cents.{cents, most}
 use Rattle.measures.specs.declared.Cents.{Cents}
 use Rattle.entries.specs.Kinds.{sameOf}
-use Rattle.entries.specs.Entries.{namedOf, oneMore}
+use Rattle.entries.specs.Data.{particularsOf, oneMore}
 use Rattle.entries.specs.declared.kinds.Kind.{Kind}
 use Rattle.entries.specs.declared.kinds.Kind.the-variants as kind
 use Rattle.entries.specs.declared.data.Entry.{Entry}
@@ -40,22 +40,13 @@ kept : (m b : ℕ) → b ≤ m → b ≡ min (b + 0) m
 kept m b h = rw (add-zero b) (sym (min-eq-left h))
 
 -- the walk over a list of entries
-unfoldable pub sumsOver : ℕ → Sums → List Entry → Sums
+abbrev pub sumsOver : ℕ → Sums → List Entry → Sums
 sumsOver allowance s [] = s
 sumsOver allowance s (e ∷ es) = sumsOver allowance (sumsWith s e allowance) es
 
-pub over-none : (allowance : ℕ) (s : Sums) → sumsOver allowance s [] ≡ s
-unfolding sumsOver
-over-none allowance s = refl
-
-pub over-one : (allowance : ℕ) (s : Sums) (e : Entry) (es : List Entry) →
-    sumsOver allowance s (e ∷ es) ≡ sumsOver allowance (sumsWith s e allowance) es
-unfolding sumsOver
-over-one allowance s e es = refl
-
-standing-same : (k : Kind) (e : Entry) → standingIn k (namedOf (e .«data»)) ≡ cents (standingOf k e)
+standing-same : (k : Kind) (e : Entry) → standingIn k (particularsOf (e .«data»)) ≡ cents (standingOf k e)
 unfolding standingIn standingOf
-standing-same k e = go (sameOf (namedOf (e .«data») .kind) k) (namedOf (e .«data») .standing)
+standing-same k e = go (sameOf (particularsOf (e .«data») .kind) k) (particularsOf (e .«data») .standing)
   where
     go : (t : Bool) (x : Cents) → cond t x (cents 0) ≡ cents (cond t (x .0) 0)
     go true x = refl
@@ -95,7 +86,7 @@ Summed allowance es =
     (min (p + totalOf (standingOf kind.Payment) (take (allowance - r) es)) most)
 
 summed : (allowance : ℕ) (es : List Entry) → Summed allowance es
-unfolding sumsOver totalOf
+unfolding totalOf
 summed allowance [] n r h b p short below hm bm pm =
     let z : min (allowance - r) 0 ≡ 0 = min-zero (allowance - r) in
     equal (omega arith) (omega arith) (kept most h hm) (kept-none kind.Bill b bm) (kept-none kind.Payment p pm)

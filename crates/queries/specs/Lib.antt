@@ -1,4 +1,5 @@
+pub mod Replies
 pub mod Chain
 pub mod Walk
-pub mod Statement
-pub mod Contribution
+pub mod Statements
+pub mod Contributions

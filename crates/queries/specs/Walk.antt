@@ -5,10 +5,10 @@ use lib.Dec.{leb}
 use Rattle.measures.specs.Cents.{cents, plusOf}
 use Rattle.measures.specs.declared.Cents.{Cents}
 use Rattle.entries.specs.Kinds.{sameOf}
-use Rattle.entries.specs.Entries.{namedOf, oneMore}
+use Rattle.entries.specs.Data.{particularsOf, oneMore}
 use Rattle.entries.specs.declared.kinds.Kind.{Kind}
 use Rattle.entries.specs.declared.kinds.Kind.the-variants as kind
-use Rattle.entries.specs.declared.data.Named.{Named}
+use Rattle.entries.specs.declared.data.Particulars.{Particulars}
 use Rattle.entries.specs.declared.data.Entry.{Entry}
 use Rattle.rules.specs.declared.accounts.Account.{Account}
 use Rattle.queries.specs.declared.statements.Sums.{Sums}
@@ -22,13 +22,13 @@ abbrev pub noSums : Sums
 noSums = sums 0 0 (cents 0) (cents 0) (cents 0)
 
 -- the standing amount of an entry of a kind
-unfoldable pub standingIn : Kind → Named → Cents
+unfoldable pub standingIn : Kind → Particulars → Cents
 standingIn k n = cond (sameOf (n .kind) k) (n .standing) (cents 0)
 
 -- with one entry more, which is read where fewer than the allowance were before it
 unfoldable pub sumsWith : Sums → Entry → ℕ → Sums
 sumsWith s e allowance =
-    let n = namedOf (e .«data») in
+    let n = particularsOf (e .«data») in
     cond (leb allowance (s .«links_read»))
     (sums (oneMore (s .length)) (s .«links_read») (plusOf (s .held) (n .held)) (s .bills) (s .payments))
     (sums (oneMore (s .length))
@@ -37,8 +37,8 @@ sumsWith s e allowance =
     (plusOf (s .bills) (standingIn kind.Bill n))
     (plusOf (s .payments) (standingIn kind.Payment n)))
 
-unfoldable pub figuresOf : Sums → Account → ℕ → StatementFigures
-figuresOf s acc allowance =
+unfoldable pub statementFiguresOf : Sums → Account → ℕ → StatementFigures
+statementFiguresOf s acc allowance =
     record {
       arrears = acc .arrears;
       credit = acc .credit;

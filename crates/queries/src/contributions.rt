@@ -1,19 +1,16 @@
 // The contribution query.
 use book::Book;
-use book::ends;
+use book::Search;
 use book::slot;
 use entries::Check;
 use entries::Data;
-use entries::Entry;
 use entries::Refusal;
-use entries::both;
 use entries::within;
 use measures::Cents;
 ghost use mathlib.Core.Path.{_≡_};
-ghost use Rattle.entries.specs.Refusals.{firstOf};
+ghost use Rattle.entries.specs.Refusals.{checkRows};
 ghost use Rattle.entries.specs.declared.refusals.Check.the-variants.{Passed};
-ghost use Rattle.queries.specs.Chain.{carries};
-ghost use Rattle.queries.specs.Contribution.{contributionReplyOf, contributionRows, figuresOf, contributionQueryOf};
+ghost use Rattle.queries.specs.Contributions.{contributionReplyOf, contributionRows, contributionFiguresOf, contributionQueryOf};
 
 pub struct ContributionFigures {
     pub amount: Cents,
@@ -75,28 +72,21 @@ impl ContributionAnswer {
 
 // 2 and 3: the refusals that node and account decide.
 fn check_query(account: u16, node: u8) -> Check
-    ensures { λ r. ⌜ r ≡ firstOf Passed (contributionRows account node) ⌝ }
+    ensures { λ r. ⌜ r ≡ checkRows Passed (contributionRows account node) ⌝ }
 {
     Check::Passed
-        .rule(!within(node as u32, 1, 2), Refusal::UnknownNode)
-        .rule(
+        .refuse_if(!within(node as u32, 1, 2), Refusal::UnknownNode)
+        .refuse_if(
             !within(account as u32, 1, Book::ACCOUNTS as u32),
             Refusal::UnknownAccount,
         )
 }
 
-// Whether an entry carries the pair of node and serial.
-fn carries(entry: Entry, node: u8, serial: u32) -> bool
-    ensures { λ r. ⌜ r ≡ carries node serial entry ⌝ }
-{
-    both(entry.node == node, entry.serial == serial)
-}
-
 // The figures of a contribution; 8 for any other entry.
-fn figures(what: Data) -> ContributionAnswer
-    ensures { λ r. ⌜ contributionReplyOf r ≡ figuresOf what ⌝ }
+fn figures(data: Data) -> ContributionAnswer
+    ensures { λ r. ⌜ contributionReplyOf r ≡ contributionFiguresOf «data» ⌝ }
 {
-    match what {
+    match data {
         Data::Contribution {
             amount,
             built: _,
@@ -129,24 +119,17 @@ pub fn contribution_query(book: Book, account: u16, node: u8, serial: u32) -> Co
     }
     let a = slot(account);
     let own = book.accounts[a];
-    let mut at = own.newest;
-    let mut sought = Entry::unused();
-    let mut left = Book::ENTRIES;
-    while 0 < left {
-        if ends(at) {
-            left = 0;
-        } else {
-            let i = at as usize - 1;
-            let entry = book.entries[i];
-            if carries(entry, node, serial) {
-                sought = entry;
-                left = 0;
-            } else {
-                at = entry.next;
-                left -= 1;
-            }
-        }
+    let mut search = Search::along(own.newest);
+    while search.goes_on() {
+        let i = search.place();
+        let entry = book.entries[i];
+        search = search.look(entry.carries(node, serial), entry.next);
     }
-    let what = sought.data;
-    figures(what)
+    let place = search.place();
+    let entry = book.entries[place];
+    if search.found {
+        let data = entry.data;
+        return figures(data);
+    }
+    ContributionAnswer::Refused(Refusal::NotOnChain)
 }

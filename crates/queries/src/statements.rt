@@ -4,15 +4,15 @@ use book::ends;
 use book::slot;
 use entries::Entry;
 use entries::Kind;
-use entries::Named;
+use entries::Particulars;
 use entries::Refusal;
 use entries::one_more;
 use entries::within;
 use measures::Cents;
 use rules::Account;
 ghost use mathlib.Core.Path.{_≡_};
-ghost use Rattle.queries.specs.Walk.{standingIn, noSums, sumsWith, figuresOf};
-ghost use Rattle.queries.specs.Statement.{statementReplyOf, statementOf};
+ghost use Rattle.queries.specs.Walk.{standingIn, noSums, sumsWith, statementFiguresOf};
+ghost use Rattle.queries.specs.Statements.{statementReplyOf, statementOf};
 
 pub struct StatementFigures {
     pub arrears: Cents,
@@ -87,12 +87,12 @@ struct Sums {
 }
 
 // The standing amount of an entry of a kind, and 0 of an entry of another.
-fn standing(named: Named, kind: Kind) -> Cents
-    ensures { λ r. ⌜ r ≡ standingIn kind named ⌝ }
+fn standing(particulars: Particulars, kind: Kind) -> Cents
+    ensures { λ r. ⌜ r ≡ standingIn kind particulars ⌝ }
 {
-    let own = named.kind;
+    let own = particulars.kind;
     if own.is(kind) {
-        named.standing
+        particulars.standing
     } else {
         Cents(0)
     }
@@ -115,10 +115,10 @@ impl Sums {
     fn with(self, entry: Entry, allowance: u64) -> Sums
         ensures { λ r. ⌜ r ≡ sumsWith self entry allowance ⌝ }
     {
-        let what = entry.data;
-        let named = what.named();
+        let data = entry.data;
+        let particulars = data.particulars();
         let length = one_more(self.length);
-        let held = self.held.plus(named.held);
+        let held = self.held.plus(particulars.held);
         if allowance <= self.links_read as u64 {
             let bills = self.bills;
             let payments = self.payments;
@@ -134,14 +134,14 @@ impl Sums {
             length,
             links_read: one_more(self.links_read),
             held,
-            bills: self.bills.plus(standing(named, Kind::Bill)),
-            payments: self.payments.plus(standing(named, Kind::Payment)),
+            bills: self.bills.plus(standing(particulars, Kind::Bill)),
+            payments: self.payments.plus(standing(particulars, Kind::Payment)),
         }
     }
 
     // The statement of an account whose whole chain was walked.
     fn figures(self, account: Account, allowance: u64) -> StatementFigures
-        ensures { λ r. ⌜ r ≡ figuresOf self account allowance ⌝ }
+        ensures { λ r. ⌜ r ≡ statementFiguresOf self account allowance ⌝ }
     {
         let arrears = account.arrears;
         let credit = account.credit;

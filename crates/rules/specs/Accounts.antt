@@ -28,8 +28,8 @@ creditedOf acc c =
     }
 
 -- what is left over is added to credit
-unfoldable pub keptOf : Account → Cents → Account
-keptOf acc left =
+unfoldable pub plusCreditOf : Account → Cents → Account
+plusCreditOf acc left =
     accountOf (acc .arrears) (plusOf (acc .credit) left) (acc .deposit) (acc .rate) (acc .deposited) (acc .newest)
 
 -- To charge c
@@ -43,10 +43,10 @@ chargedOf acc c =
     (acc .newest)
 
 -- the account with a deposit held
-unfoldable pub holdingOf : Account → Cents → ℕ → Day → Account
-holdingOf acc deposit rate deposited =
+unfoldable pub withDepositOf : Account → Cents → ℕ → Day → Account
+withDepositOf acc deposit rate deposited =
     accountOf (acc .arrears) (acc .credit) deposit rate deposited (acc .newest)
 
 -- the account with a newest entry
-unfoldable pub numberedOf : Account → ℕ → Account
-numberedOf acc newest = accountOf (acc .arrears) (acc .credit) (acc .deposit) (acc .rate) (acc .deposited) newest
+unfoldable pub withNewestOf : Account → ℕ → Account
+withNewestOf acc newest = accountOf (acc .arrears) (acc .credit) (acc .deposit) (acc .rate) (acc .deposited) newest

@@ -6,8 +6,8 @@ use lib.Dec.{eqb, leb, ltb}
 use Rattle.measures.specs.declared.Cents.{Cents}
 use Rattle.measures.specs.declared.Day.{Day}
 use Rattle.entries.specs.Kinds.{sameOf, misnamesOf}
-use Rattle.entries.specs.Refusals.{Row, _⇒_, firstOf}
-use Rattle.entries.specs.Entries.{namedOf}
+use Rattle.entries.specs.Refusals.{Row, _⇒_, checkRows}
+use Rattle.entries.specs.Data.{particularsOf}
 use Rattle.entries.specs.declared.raw.Raw.{Raw}
 use Rattle.entries.specs.declared.kinds.Kind.{Kind}
 use Rattle.entries.specs.declared.kinds.Kind.the-variants as kind
@@ -39,7 +39,7 @@ ownRows r k acc =
 -- of an entry that names e
 abbrev pub namingRows : Raw → Kind → Entry → List Row
 namingRows r k e =
-    let n = namedOf (e .«data») in
+    let n = particularsOf (e .«data») in
     (misnamesOf k (n .kind) ⇒ no.NotOnChain) ∷
     (ltb (r .day) (e .day .0) ⇒ no.DayBefore) ∷
     (n .closed ⇒ no.Closed) ∷
@@ -51,7 +51,7 @@ namingRows r k e =
     []
 
 unfoldable pub checkOwnOf : Raw → Kind → Account → Check
-checkOwnOf r k acc = firstOf check.Passed (ownRows r k acc)
+checkOwnOf r k acc = checkRows check.Passed (ownRows r k acc)
 
 unfoldable pub checkNamingOf : Raw → Kind → Entry → Check
-checkNamingOf r k e = firstOf check.Passed (namingRows r k e)
+checkNamingOf r k e = checkRows check.Passed (namingRows r k e)

@@ -2,15 +2,16 @@
 use Prim.Native.Nat.{ℕ, _+_, _-_, _*_, _/_, min, _≤_, _<_}
 use mathlib.Core.Path.{_≡_}
 use mathlib.Core.Bool.{true}
+use Rattle.measures.specs.Days.{lastDay}
 use Rattle.measures.specs.Cents.{productOf, cents, timesOf, roundedOf}
 use Rattle.measures.specs.Rounding.{Nearest, Floor}
 use Rattle.measures.specs.declared.Cents.{Cents}
 use Rattle.measures.specs.declared.Metres.{Metres}
-use Rattle.entries.specs.Ranges.{amountMost, inRangeOf}
-use Rattle.entries.specs.Entries.{metres}
+use Rattle.entries.specs.Ranges.{amountMost, inRangeOf, rateMost}
+use Rattle.entries.specs.Data.{metres}
 use Rattle.entries.specs.declared.raw.Raw.{Raw}
 use Rattle.entries.specs.declared.kinds.Kind.the-variants as kind
-use Rattle.entries.specs.declared.data.Named.{Named}
+use Rattle.entries.specs.declared.data.Particulars.{Particulars}
 
 -- 3: billed = floor((2 × charge × served + period) / (2 × period))
 abbrev pub billed : ℕ → ℕ → ℕ → ℕ
@@ -28,7 +29,7 @@ interest deposit rate t = (2 * (deposit * rate * t) + 3650000) / 7300000
 unfoldable pub billedOf : Cents → ℕ → ℕ → Cents
 billedOf charge served period = roundedOf (timesOf charge served) period
 
-unfoldable pub refundOf : Named → Metres → Cents
+unfoldable pub refundOf : Particulars → Metres → Cents
 refundOf n shared = cents (min (n .held .0) (productOf (n .amount .0) (shared .0) / (n .built .0 * (n .added + 2))))
 
 unfoldable pub interestOf : Cents → ℕ → ℕ → Cents
@@ -37,18 +38,18 @@ interestOf deposit rate days = roundedOf (timesOf (timesOf deposit rate) days) 3
 -- Within these limits no product reaches 2^64 - 1, and the code's formulas are document 01's.
 pub record Plain : Type 0 where
   pub bill : (charge served period : ℕ) → charge ≤ amountMost → served ≤ 255 → billedOf (cents charge) served period ≡ cents (billed charge served period)
-  pub added-customer : (n : Named) (shared : Metres) → n .amount .0 ≤ amountMost → shared .0 ≤ 65535 →
+  pub added-customer : (n : Particulars) (shared : Metres) → n .amount .0 ≤ amountMost → shared .0 ≤ 65535 →
       refundOf n shared ≡ cents (refund (n .held .0) (n .amount .0) (shared .0) (n .built .0) (n .added))
-  pub deposit-return : (deposit rate days : ℕ) → deposit ≤ amountMost → rate ≤ 2000 → days ≤ 36524 → interestOf (cents deposit) rate days ≡ cents (interest deposit rate days)
+  pub deposit-return : (deposit rate days : ℕ) → deposit ≤ amountMost → rate ≤ rateMost → days ≤ lastDay → interestOf (cents deposit) rate days ≡ cents (interest deposit rate days)
 
 -- So they are for every entry that refusals 1 to 5 let through: a bill; a customer added to a contribution; the return of a deposit.
 pub record PlainEntries : Type 0 where
   pub bill : (r : Raw) → inRangeOf r kind.Bill ≡ true →
       billedOf (cents (r .amount)) (r .b) (r .a) ≡ cents (billed (r .amount) (r .b) (r .a))
-  pub added-customer : (contribution r : Raw) (n : Named) → inRangeOf contribution kind.Contribution ≡ true → inRangeOf r kind.AddedCustomer ≡ true →
+  pub added-customer : (contribution r : Raw) (n : Particulars) → inRangeOf contribution kind.Contribution ≡ true → inRangeOf r kind.AddedCustomer ≡ true →
       n .amount ≡ cents (contribution .amount) →
       refundOf n (metres (r .a)) ≡ cents (refund (n .held .0) (contribution .amount) (r .a) (n .built .0) (n .added))
-  pub deposit-return : (deposit r : Raw) → inRangeOf deposit kind.Deposit ≡ true → r .day ≤ 36524 →
+  pub deposit-return : (deposit r : Raw) → inRangeOf deposit kind.Deposit ≡ true → r .day ≤ lastDay →
       interestOf (cents (deposit .amount)) (deposit .a) (r .day - deposit .day) ≡ cents (interest (deposit .amount) (deposit .a) (r .day - deposit .day))
 
 -- Billed amounts and interest are rounded by the one law of rounding: to the nearest cent, an exact half upwards.

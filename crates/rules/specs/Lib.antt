@@ -3,4 +3,3 @@ pub mod Accounts
 pub mod Formulas
 pub mod Checks
 pub mod Answers
-pub mod Changes

@@ -2,7 +2,7 @@
 use measures::Cents;
 use measures::Day;
 ghost use mathlib.Core.Path.{_≡_};
-ghost use Rattle.rules.specs.Accounts.{noAccount, creditedOf, keptOf, chargedOf, holdingOf, numberedOf};
+ghost use Rattle.rules.specs.Accounts.{noAccount, creditedOf, plusCreditOf, chargedOf, withDepositOf, withNewestOf};
 
 pub struct Account {
     pub arrears: Cents,
@@ -51,8 +51,8 @@ impl Account {
     }
 
     // What is left over is added to credit.
-    pub fn kept(mut self, left: Cents) -> Account
-        ensures { λ r. ⌜ r ≡ keptOf self left ⌝ }
+    pub fn plus_credit(mut self, left: Cents) -> Account
+        ensures { λ r. ⌜ r ≡ plusCreditOf self left ⌝ }
     {
         self.credit = self.credit.plus(left);
         self
@@ -68,8 +68,8 @@ impl Account {
         self
     }
 
-    pub fn holding(mut self, deposit: Cents, rate: u64, deposited: Day) -> Account
-        ensures { λ r. ⌜ r ≡ holdingOf self deposit rate deposited ⌝ }
+    pub fn with_deposit(mut self, deposit: Cents, rate: u64, deposited: Day) -> Account
+        ensures { λ r. ⌜ r ≡ withDepositOf self deposit rate deposited ⌝ }
     {
         self.deposit = deposit;
         self.rate = rate;
@@ -77,8 +77,8 @@ impl Account {
         self
     }
 
-    pub fn numbered(mut self, newest: u16) -> Account
-        ensures { λ r. ⌜ r ≡ numberedOf self newest ⌝ }
+    pub fn with_newest(mut self, newest: u16) -> Account
+        ensures { λ r. ⌜ r ≡ withNewestOf self newest ⌝ }
     {
         self.newest = newest;
         self

@@ -2,7 +2,7 @@
 use entries::Refusal;
 use measures::Cents;
 ghost use mathlib.Core.Path.{_≡_};
-ghost use Rattle.rules.specs.Answers.{amountsOf, replyOf};
+ghost use Rattle.rules.specs.Answers.{amountsOf, postingReplyOf};
 
 // The four amounts of an accepted posting: arrears settled by a credit, paid out, retained, interest.
 pub struct Amounts {
@@ -12,13 +12,13 @@ pub struct Amounts {
     pub interest: Cents,
 }
 
-pub enum Answer {
+pub enum PostingAnswer {
     Refused(Refusal),
     Accepted { number: u16, amounts: Amounts },
 }
 
 // An answer in document 01's numbers.
-pub struct Reply {
+pub struct PostingReply {
     pub refusal: u8,
     pub number: u16,
     pub settled: u64,
@@ -40,12 +40,12 @@ impl Amounts {
     }
 }
 
-impl Answer {
-    pub fn reply(self) -> Reply
-        ensures { λ r. ⌜ r ≡ replyOf self ⌝ }
+impl PostingAnswer {
+    pub fn reply(self) -> PostingReply
+        ensures { λ r. ⌜ r ≡ postingReplyOf self ⌝ }
     {
         match self {
-            Answer::Refused(refusal) => Reply {
+            PostingAnswer::Refused(refusal) => PostingReply {
                 refusal: refusal.number(),
                 number: 0,
                 settled: 0,
@@ -53,7 +53,7 @@ impl Answer {
                 retained: 0,
                 interest: 0,
             },
-            Answer::Accepted { number, amounts } => Reply {
+            PostingAnswer::Accepted { number, amounts } => PostingReply {
                 refusal: 0,
                 number,
                 settled: amounts.settled.0,

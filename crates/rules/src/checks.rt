@@ -13,7 +13,7 @@ ghost use mathlib.Core.Path.{_≡_};
 ghost use Rattle.rules.specs.Checks.{periodEnd, depositClash, checkOwnOf, checkNamingOf};
 
 // The days from a contribution on in which added customers bring refunds; an expiry comes after them.
-pub const REFUND_PERIOD: u16 = 1826;
+const REFUND_PERIOD: u16 = 1826;
 
 // The first day on which a contribution of a day brings no refund any more.
 fn period_end(contributed: Day) -> u32
@@ -38,8 +38,8 @@ pub fn check_own(raw: Raw, kind: Kind, account: Account) -> Check
 {
     let before = raw.day < account.deposited.0;
     Check::Passed
-        .rule(deposit_clash(kind, account.deposit), Refusal::DepositState)
-        .rule(
+        .refuse_if(deposit_clash(kind, account.deposit), Refusal::DepositState)
+        .refuse_if(
             both(kind.is(Kind::DepositReturn), before),
             Refusal::DayBefore,
         )
@@ -50,22 +50,25 @@ pub fn check_naming(raw: Raw, kind: Kind, entry: Entry) -> Check
     ensures { λ r. ⌜ r ≡ checkNamingOf raw kind entry ⌝ }
 {
     let data = entry.data;
-    let named = data.named();
-    let named_kind = named.kind;
+    let particulars = data.particulars();
+    let named_kind = particulars.kind;
     let day = raw.day as u32;
     let end = period_end(entry.day);
     let added = kind.is(Kind::AddedCustomer);
-    let one_to_three = both(raw.b == 1, named.phases == 3);
+    let one_to_three = both(raw.b == 1, particulars.phases == 3);
     Check::Passed
-        .rule(kind.misnames(named_kind), Refusal::NotOnChain)
-        .rule(raw.day < entry.day.0, Refusal::DayBefore)
-        .rule(named.closed, Refusal::Closed)
-        .rule(both(added, end <= day), Refusal::PeriodOver)
-        .rule(
+        .refuse_if(kind.misnames(named_kind), Refusal::NotOnChain)
+        .refuse_if(raw.day < entry.day.0, Refusal::DayBefore)
+        .refuse_if(particulars.closed, Refusal::Closed)
+        .refuse_if(both(added, end <= day), Refusal::PeriodOver)
+        .refuse_if(
             both(kind.is(Kind::Expiry), day < end),
             Refusal::PeriodRunning,
         )
-        .rule(both(added, one_to_three), Refusal::OnePhase)
-        .rule(both(added, named.built.0 < raw.a), Refusal::MetresExceeded)
-        .rule(named.corrected, Refusal::CorrectedBefore)
+        .refuse_if(both(added, one_to_three), Refusal::OnePhase)
+        .refuse_if(
+            both(added, particulars.built.0 < raw.a),
+            Refusal::MetresExceeded,
+        )
+        .refuse_if(particulars.corrected, Refusal::CorrectedBefore)
 }

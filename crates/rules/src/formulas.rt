@@ -1,5 +1,5 @@
 // The formulas: a bill's billed amount, a contribution's refund, a deposit's interest.
-use entries::Named;
+use entries::Particulars;
 use measures::Cents;
 use measures::Metres;
 use measures::product;
@@ -17,15 +17,15 @@ pub fn billed(charge: Cents, served: u8, period: u16) -> Cents
 
 // What one more customer on the line gives back: its share, and not more than is held. Cents and metres are unwrapped, and the
 // refund is cents again.
-pub fn refund(named: Named, shared: Metres) -> Cents
-    ensures { λ r. ⌜ r ≡ refundOf named shared ⌝ }
+pub fn refund(particulars: Particulars, shared: Metres) -> Cents
+    ensures { λ r. ⌜ r ≡ refundOf particulars shared ⌝ }
 {
-    let contribution = named.amount.0;
+    let contribution = particulars.amount.0;
     let metres_shared = shared.0 as u64;
-    let metres_built = named.built.0 as u64;
-    let k = named.added as u64 + 2;
+    let metres_built = particulars.built.0 as u64;
+    let k = particulars.added as u64 + 2;
     let share = quotient(product(contribution, metres_shared), metres_built * k);
-    Cents(smaller(named.held.0, share))
+    Cents(smaller(particulars.held.0, share))
 }
 
 // The days of a year times the hundredths of a percent in the whole.

@@ -1,10 +1,10 @@
 // Two nodes of a pair: posts entries to their books, carries entries over, and prints the statements of both.
 use book::Book;
-use carry::AT_ONCE;
-use carry::carry_first;
+use carry_lent::AT_ONCE;
+use carry_lent::carry_first;
 use entries::Raw;
-use image::LoadAnswer;
-use image::Loaded;
+use loads::LoadAnswer;
+use loads::Loaded;
 use printer::print_loaded;
 
 // An entry of account 9. Where it names another, that is node 1's.

@@ -5,7 +5,7 @@ mod shapes;
 mod writing;
 
 pub use lists::at;
-pub use reading::LONGEST;
+pub use reading::LONGEST_READ;
 pub use reading::Line;
 pub use reading::NUMBERS;
 pub use shapes::BUFFER;

@@ -2,10 +2,10 @@
 ghost use Prim.Native.Nat.{_≤_};
 ghost use mathlib.Core.Path.{_≡_};
 ghost use lib.ListN.{drop};
-ghost use Rattle.text.specs.Numbers.{digitOf, numberIn};
+ghost use Rattle.text.specs.Reading.{digitOf, numberIn};
 
 // The longest line that is read. A comment may be longer.
-pub const LONGEST: usize = 4095;
+pub const LONGEST_READ: usize = 4095;
 
 // No such line has more numbers.
 pub const NUMBERS: usize = 2047;
@@ -84,7 +84,7 @@ pub fn read(line: &[u8], numbers: &mut [u64]) -> Line {
     if letter == b'#' {
         return Line::Nothing;
     }
-    if LONGEST < line.len() {
+    if LONGEST_READ < line.len() {
         return Line::Unclear;
     }
     let mut at: usize = 1;

@@ -3,7 +3,7 @@ use crate::lists::at as nth;
 ghost use Rattle.io.specs.Counts.{Counts};
 
 // The longest answer: a letter, 1,024 numbers with a space before each, and the end of the line.
-const LONGEST: usize = 21506;
+const LONGEST_ANSWER: usize = 21506;
 
 // A number of a list's bytes: all of them where there are no more.
 pub fn first(bytes: &[u8], n: usize) -> usize
@@ -29,7 +29,7 @@ fn number(text: &mut [u8], at: usize, n: u64) -> usize {
     let mut shown = [0u8; 20];
     let k = io::decimal(n, &mut shown);
     let from = put(text, at, b' ');
-    lines::put(text, from, &shown[..k])
+    buffers::put(text, from, &shown[..k])
 }
 
 // Puts a letter and the first so many numbers, and the end of the line, and gives the length.
@@ -45,7 +45,7 @@ fn spell(text: &mut [u8], letter: u8, numbers: &[u64], count: usize) -> usize {
 
 // Writes a letter and the first so many numbers to standard output as a line.
 pub fn write(letter: u8, numbers: &[u64], count: usize) {
-    let mut text = [0u8; LONGEST];
+    let mut text = [0u8; LONGEST_ANSWER];
     let end = spell(&mut text, letter, numbers, count);
     let n = first(&text, end);
     io::write_all(1, &text[..n]);

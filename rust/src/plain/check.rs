@@ -38,7 +38,7 @@ pub(super) fn is_node(node: u8) -> bool {
 
 /// Refusals 1 to 5: what the entry's own fields decide.
 fn check_fields(raw: &Raw) -> Result<(), u8> {
-    refuse(!(CONTRIBUTION..=CORRECTION).contains(&raw.kind), 1)?;
+    refuse(!(CONTRIBUTION..=LAST_KIND).contains(&raw.kind), 1)?;
     refuse(!is_node(raw.node), 2)?;
     refuse(!is_account(raw.account), 3)?;
     refuse(raw.day > LAST_DAY, 4)?;
@@ -47,7 +47,7 @@ fn check_fields(raw: &Raw) -> Result<(), u8> {
 
 /// Whether every field but the serial is in the range of the entry's kind.
 fn in_range(raw: &Raw) -> bool {
-    let amount = (1..=MAX_AMOUNT).contains(&raw.amount);
+    let amount = (1..=AMOUNT_MOST).contains(&raw.amount);
     let named = is_node(raw.named_node) && raw.named_serial >= 1;
     let phases = raw.b == 1 || raw.b == 3;
 
@@ -67,7 +67,7 @@ fn in_range(raw: &Raw) -> bool {
         DEPOSIT => amount && not_named && raw.a <= MAX_RATE && no_b,
         DEPOSIT_RETURN => no_amount && not_named && no_a && no_b,
         EXPIRY => no_amount && named && no_a && no_b,
-        CORRECTION => raw.amount <= MAX_AMOUNT && named && no_a && no_b,
+        CORRECTION => raw.amount <= AMOUNT_MOST && named && no_a && no_b,
         _ => false,
     }
 }
@@ -101,7 +101,7 @@ impl Book {
         let contribution = &self.entries[place];
         refuse(raw.day < contribution.raw.day, 10)?;
         refuse(contribution.closed, 11)?;
-        refuse(raw.day - contribution.raw.day >= REFUND_DAYS, 12)?;
+        refuse(raw.day - contribution.raw.day >= REFUND_PERIOD, 12)?;
         refuse(raw.b == 1 && contribution.raw.b == 3, 14)?;
         refuse(raw.a > contribution.raw.a, 15)?;
         Ok(Accepted::AddedCustomer(place))
@@ -115,7 +115,7 @@ impl Book {
     fn check_deposit_return(&self, raw: &Raw) -> Checked {
         let account = self.account(raw.account);
         refuse(account.deposit == 0, 9)?;
-        refuse(raw.day < account.deposit_day, 10)?;
+        refuse(raw.day < account.deposited, 10)?;
         Ok(Accepted::DepositReturn)
     }
 
@@ -124,7 +124,7 @@ impl Book {
         let contribution = &self.entries[place];
         refuse(raw.day < contribution.raw.day, 10)?;
         refuse(contribution.closed, 11)?;
-        refuse(raw.day - contribution.raw.day < REFUND_DAYS, 13)?;
+        refuse(raw.day - contribution.raw.day < REFUND_PERIOD, 13)?;
         Ok(Accepted::Expiry(place))
     }
 

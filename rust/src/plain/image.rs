@@ -49,7 +49,7 @@ impl Book {
 
     /// The record posted last: by 1 to 16 as its posting was answered, then
     /// its next index by 20.
-    pub(crate) fn check_record(&self, reply: Reply, next: u16) -> Result<(), u8> {
+    pub(crate) fn check_record(&self, reply: PostingReply, next: u16) -> Result<(), u8> {
         if reply.refusal != 0 {
             return Err(reply.refusal);
         }
@@ -63,7 +63,7 @@ impl Book {
 /// Refusals 17, 18 and 19.
 pub(crate) fn check_header(image: &[u8]) -> Result<(), u8> {
     let length = image.len();
-    if !(RECORD..=LONGEST).contains(&length) || !length.is_multiple_of(RECORD) {
+    if !(RECORD..=LONGEST_IMAGE).contains(&length) || !length.is_multiple_of(RECORD) {
         return Err(17);
     }
     if image[..4] != MARK[..] || image[6..RECORD].iter().any(|&byte| byte != 0) {

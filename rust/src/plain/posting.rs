@@ -16,12 +16,12 @@ fn interest(deposit: u64, rate: u64, days: u64) -> u64 {
 
 impl Book {
     /// Posts one entry. A refused entry leaves the book unchanged.
-    pub fn post(&mut self, raw: &Raw) -> Reply {
+    pub fn post(&mut self, raw: &Raw) -> PostingReply {
         match self.check(raw) {
-            Err(refusal) => Reply::refused(refusal),
+            Err(refusal) => PostingReply::refused(refusal),
             Ok(accepted) => {
                 let number = self.append(raw);
-                Reply {
+                PostingReply {
                     number,
                     ..self.apply(raw, accepted)
                 }
@@ -41,7 +41,7 @@ impl Book {
     }
 
     /// Makes the moves of the entry appended last.
-    fn apply(&mut self, raw: &Raw, accepted: Accepted) -> Reply {
+    fn apply(&mut self, raw: &Raw, accepted: Accepted) -> PostingReply {
         match accepted {
             Accepted::Contribution => self.contribution(raw),
             Accepted::AddedCustomer(place) => self.added_customer(raw, place),
@@ -54,15 +54,15 @@ impl Book {
         }
     }
 
-    fn contribution(&mut self, raw: &Raw) -> Reply {
+    fn contribution(&mut self, raw: &Raw) -> PostingReply {
         self.appended().held = u64::from(raw.amount);
-        Reply::default()
+        PostingReply::default()
     }
 
     /// The refund is credited; what is left over is paid out.
-    fn added_customer(&mut self, raw: &Raw, place: usize) -> Reply {
+    fn added_customer(&mut self, raw: &Raw, place: usize) -> PostingReply {
         let contribution = &mut self.entries[place];
-        let k = 2 + u64::from(contribution.customers);
+        let k = 2 + u64::from(contribution.added);
         let share = u64::from(contribution.raw.amount) * u64::from(raw.a)
             / (u64::from(contribution.raw.a) * k);
         let refund = share.min(contribution.held);
@@ -71,69 +71,69 @@ impl Book {
         contribution.held -= refund;
         contribution.to_arrears += settled;
         contribution.paid_out += paid_out;
-        contribution.customers += 1;
-        Reply {
+        contribution.added += 1;
+        PostingReply {
             settled,
             paid_out,
-            ..Reply::default()
+            ..PostingReply::default()
         }
     }
 
-    fn bill(&mut self, raw: &Raw) -> Reply {
+    fn bill(&mut self, raw: &Raw) -> PostingReply {
         let billed = billed(raw.amount.into(), raw.a.into(), raw.b.into());
         self.appended().standing = billed;
         self.account_mut(raw.account).charge(billed);
-        Reply::default()
+        PostingReply::default()
     }
 
-    fn payment(&mut self, raw: &Raw) -> Reply {
+    fn payment(&mut self, raw: &Raw) -> PostingReply {
         let amount = u64::from(raw.amount);
         self.appended().standing = amount;
         self.credit_keeping_rest(raw.account, amount)
     }
 
-    fn deposit(&mut self, raw: &Raw) -> Reply {
+    fn deposit(&mut self, raw: &Raw) -> PostingReply {
         let account = self.account_mut(raw.account);
         account.deposit = u64::from(raw.amount);
         account.rate = raw.a;
-        account.deposit_day = raw.day;
-        Reply::default()
+        account.deposited = raw.day;
+        PostingReply::default()
     }
 
     /// Deposit and interest are credited together; what is left over is paid
     /// out.
-    fn deposit_return(&mut self, raw: &Raw) -> Reply {
+    fn deposit_return(&mut self, raw: &Raw) -> PostingReply {
         let account = self.account_mut(raw.account);
-        let days = raw.day - account.deposit_day;
+        let days = raw.day - account.deposited;
         let interest = interest(account.deposit, account.rate.into(), days.into());
         let (settled, paid_out) = account.credit(account.deposit + interest);
         account.deposit = 0;
         account.rate = 0;
-        account.deposit_day = 0;
-        Reply {
+        account.deposited = 0;
+        PostingReply {
             settled,
             paid_out,
             interest,
-            ..Reply::default()
+            ..PostingReply::default()
         }
     }
 
     /// What is still held is retained and the contribution is closed.
-    fn expiry(&mut self, place: usize) -> Reply {
+    fn expiry(&mut self, place: usize) -> PostingReply {
         let contribution = &mut self.entries[place];
         contribution.retained = contribution.held;
         contribution.held = 0;
         contribution.closed = true;
-        Reply {
+        PostingReply {
             retained: contribution.retained,
-            ..Reply::default()
+            ..PostingReply::default()
         }
     }
 
     /// The named entry's standing amount becomes the new one. A bill that
     /// grows, or a payment that shrinks, charges the difference; the others
     /// credit it.
-    fn correction(&mut self, raw: &Raw, place: usize) -> Reply {
+    fn correction(&mut self, raw: &Raw, place: usize) -> PostingReply {
         let named = &mut self.entries[place];
         let old = named.standing;
         let new = u64::from(raw.amount);
@@ -146,20 +146,20 @@ impl Book {
         };
         if charges {
             self.account_mut(raw.account).charge(new.abs_diff(old));
-            Reply::default()
+            PostingReply::default()
         } else {
             self.credit_keeping_rest(raw.account, new.abs_diff(old))
         }
     }
 
     /// Credits the amount; what is left over is added to credit.
-    fn credit_keeping_rest(&mut self, account: u16, amount: u64) -> Reply {
+    fn credit_keeping_rest(&mut self, account: u16, amount: u64) -> PostingReply {
         let account = self.account_mut(account);
         let (settled, rest) = account.credit(amount);
         account.credit += rest;
-        Reply {
+        PostingReply {
             settled,
-            ..Reply::default()
+            ..PostingReply::default()
         }
     }
 

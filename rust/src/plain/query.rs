@@ -35,7 +35,7 @@ pub struct ContributionReply {
     pub held: u64,
     pub retained: u64,
     /// Customers added.
-    pub customers: u16,
+    pub added: u16,
     pub closed: bool,
 }
 
@@ -105,7 +105,7 @@ impl Book {
             paid_out: entry.paid_out,
             held: entry.held,
             retained: entry.retained,
-            customers: entry.customers,
+            added: entry.added,
             closed: entry.closed,
         }
     }

@@ -8,9 +8,6 @@ returns : tie.Need-returns
 unfolding slotOf
 returns c = simp (eq-eqb _ _ (c .if1 .taken))
 
-sub-result : tie.Need-sub-result
-sub-result c = search needs
-
 returns-2 : tie.Need-returns-2
 unfolding slotOf
 returns-2 c = simp (ne-eqb _ _ (c .before .if1 .left), le-ltb _ _ (c .if2 .taken))
@@ -20,4 +17,4 @@ unfolding slotOf
 returns-3 c = simp (ne-eqb _ _ (c .before .if1 .left), lt-ltb _ _ (c .if2 .left))
 
 pub slot-spec : {M : Type 1} → statement M
-slot-spec = tie.close (tie.spec returns sub-result returns-2 returns-3)
+slot-spec = tie.close (tie.spec returns (λ c. search needs) returns-2 returns-3)

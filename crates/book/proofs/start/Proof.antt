@@ -4,9 +4,6 @@ use borrow.Author.Needs.{needs}
 use Rattle.book.proofs.start.Statement.{statement}
 use Rattle.book.proofs.start.Tie as tie
 
-names-requires : tie.Need-names-requires
-names-requires c κs = search needs
-
 returns : tie.Need-returns
 unfolding startOf
 returns c = simp (sym (c .before .names .ensures) ∙ c .if1 .taken)
@@ -16,4 +13,4 @@ unfolding startOf
 returns-2 c = simp (sym (c .before .names .ensures) ∙ c .if1 .left)
 
 pub start-spec : {M : Type 1} → statement M
-start-spec = tie.close (tie.spec names-requires returns returns-2)
+start-spec = tie.close (tie.spec (λ c κs. search needs) returns returns-2)

@@ -54,22 +54,22 @@ use denote.Exit.{yes}
 use Rattle.entries.specs.declared.raw.Raw.{Raw}
 use Rattle.entries.specs.declared.refusals.Refusal.{Refusal}
 use Rattle.entries.specs.declared.refusals.Refusal.the-variants.{ResultsShort}
-use Rattle.rules.specs.Answers.{replyOf}
-use Rattle.rules.specs.declared.answers.Answer.{Answer}
-use Rattle.book.specs.Posting.{Result, resultOf, postOf}
+use Rattle.rules.specs.Answers.{postingReplyOf}
+use Rattle.rules.specs.declared.answers.PostingAnswer.{PostingAnswer}
+use Rattle.book.specs.Posting.{PostedReply, postedReply, postOf}
 use Rattle.book.specs.declared.Book.{Book}
 use Rattle.book.specs.declared.Posted.{Posted}
 use Rattle.carry.specs.declared.Carried.{Carried}
 use Rattle.carry.specs.declared.CarryAnswer.{CarryAnswer}
 use Rattle.carry.specs.declared.CarryAnswer.the-variants.{Refused, Accepted}
 use Rattle.carry.proofs.Branch.{branch-or}
-use Rattle.carry.proofs.Fold.{lowB, noRaw, Turn, start, next, here, less, refused, accepted}
+use Rattle.carry.proofs.Fold.{lowB, noRaw, Turn, start, next, laws}
 use Rattle.entries.proofs.raw.Raw as R
 use Rattle.entries.proofs.raw.Raw.Laws as R′
 use Rattle.entries.proofs.refusals.Refusal as F
 use Rattle.entries.proofs.refusals.Refusal.Laws as F′
-use Rattle.rules.proofs.answers.Answer as N
-use Rattle.rules.proofs.answers.Answer.Laws as N′
+use Rattle.rules.proofs.answers.PostingAnswer as N
+use Rattle.rules.proofs.answers.PostingAnswer.Laws as N′
 use Rattle.book.proofs.Book as B
 use Rattle.book.proofs.Book.Laws as B′
 use Rattle.book.proofs.Posted as P
@@ -90,14 +90,14 @@ use Rattle.carry.proofs.carry_over.Statement as stated
 use Rattle.carry.proofs.carry_over.Code as code
 use Rattle.carry.proofs.carry_over.Code.Mir as body
 
--- ---- machine values, and the locals' types
+-- MACHINE VALUES, AND THE LOCALS' TYPES
 abbrev lowR : Raw → Val
 lowR = LL.val R.the-type R′.the-laws
 
 abbrev lowF : Refusal → Val
 lowF = EL.val F.the-type F′.the-laws
 
-abbrev lowN : Answer → Val
+abbrev lowN : PostingAnswer → Val
 lowN = EL.val N.the-type N′.the-laws
 
 abbrev lowP : Posted → Val
@@ -147,7 +147,7 @@ okAccepted = EL.owes CA.the-type CA′.the-laws Accepted tt
 okK : (b : Book) (v : CarryAnswer) → Is B.the-row b (lowB b ∷ []) → Is CA.the-row v (lowV v ∷ []) → Is K.the-row (record { book = b; answer = v }) (lowK (record { book = b; answer = v }) ∷ [])
 okK b v okb okv = LL.owes K.the-type K′.the-laws (record { book = b; answer = v }) (okb, (okv, tt))
 
--- ---- the callees
+-- THE CALLEES
 module _ {M : Type 1} (𝓤 : URA M) (H : Heap 𝓤) (A : Atoms 𝓤) (W : Given 𝓤 H A) (mem : Memory → SProp 𝓤) (run : Routine → Fun 𝓤) where
   abbrev PostC : Contract 𝓤
   PostC = tripleOf 𝓤 H A post.signature (post.spec 𝓤 H A mem run)
@@ -164,10 +164,10 @@ module _ {M : Type 1} (𝓤 : URA M) (H : Heap 𝓤) (A : Atoms 𝓤) (W : Given
         qed W (‵ (B.the-row .own s (lowB s ∷ [])) ∷ ‵ (R.the-row .own x (lowR x ∷ [])) ∷ []) ∵
         nothing ! $ move ! (2 ∷ 0 ∷ []) $ fjoin ! $ move ! (1 ∷ 0 ∷ []) $ fjoin ! $ nothing ! $ join ! $ frame ! $ done !
 
-    said-of : (r : Posted) → ent 𝓤 (ensured 𝓤 H A post.ended (post.clauses 𝓤 H A mem run) tt (s, (x, tt)) tt r) (fact 𝓤 (resultOf r ≡ postOf s x))
-    said-of r = exE 𝓤 _ (λ ws. snd∗ 𝓤 (sem 𝓤 H A (lasts post.ended tt (s, (x, tt)) ws)) (fact 𝓤 (resultOf r ≡ postOf s x)))
+    said-of : (r : Posted) → ent 𝓤 (ensured 𝓤 H A post.ended (post.clauses 𝓤 H A mem run) tt (s, (x, tt)) tt r) (fact 𝓤 (postedReply r ≡ postOf s x))
+    said-of r = exE 𝓤 _ (λ ws. snd∗ 𝓤 (sem 𝓤 H A (lasts post.ended tt (s, (x, tt)) ws)) (fact 𝓤 (postedReply r ≡ postOf s x)))
 
-  module _ (a : Answer) where
+  module _ (a : PostingAnswer) where
     abbrev to-number : NumberC .Ghost
     to-number = ((tt, tt, tt, (a, tt), (lowN a ∷ [], tt)), tt)
 
@@ -176,10 +176,10 @@ module _ {M : Type 1} (𝓤 : URA M) (H : Heap 𝓤) (A : Atoms 𝓤) (W : Given
         qed W (‵ (N.the-row .own a (lowN a ∷ [])) ∷ []) ∵
         nothing ! $ move ! (1 ∷ 0 ∷ []) $ fjoin ! $ nothing ! $ join ! $ frame ! $ done !
 
-    number-of : (k : ℕ) → ent 𝓤 (ensured 𝓤 H A number.ended (number.clauses 𝓤 H A mem run) tt (a, tt) tt k) (fact 𝓤 (k ≡ replyOf a .refusal))
-    number-of k = exE 𝓤 _ (λ ws. snd∗ 𝓤 (sem 𝓤 H A (lasts number.ended tt (a, tt) ws)) (fact 𝓤 (k ≡ replyOf a .refusal)))
+    number-of : (k : ℕ) → ent 𝓤 (ensured 𝓤 H A number.ended (number.clauses 𝓤 H A mem run) tt (a, tt) tt k) (fact 𝓤 (k ≡ postingReplyOf a .refusal))
+    number-of k = exE 𝓤 _ (λ ws. snd∗ 𝓤 (sem 𝓤 H A (lasts number.ended tt (a, tt) ws)) (fact 𝓤 (k ≡ postingReplyOf a .refusal)))
 
--- ---- at one choice of lifetimes, shares and arguments
+-- AT ONE CHOICE OF LIFETIMES, SHARES AND ARGUMENTS
 module _ {M : Type 1} (𝓤 : URA M) (H : Heap 𝓤) (A : Atoms 𝓤) (W : Given 𝓤 H A) (mem : Memory → SProp 𝓤) (run : Routine → Fun 𝓤) (κ κ′ : Lft) (q q′ : Share)
     (s₀ : Book) (b o : ℕ) (γ : GName) (xs : List Raw) (b′ o′ : ℕ) (γ′ : GName) (rs : List ℕ)
     (ok₀ : Is B.the-row s₀ (lowB s₀ ∷ [])) (gn : Room R.the-row (length xs)) (gm : Room u8 (length rs)) where
@@ -215,7 +215,7 @@ module _ {M : Type 1} (𝓤 : URA M) (H : Heap 𝓤) (A : Atoms 𝓤) (W : Given
   exits-short : ltb m n ≡ true → ent 𝓤 (⋆ 𝓤 H A (Tokens ∷ ‵ Passed ∷ [])) (Post (lowK short))
   exits-short e =
       qed W (Tokens ∷ ‵ Passed ∷ []) ∵
-      suffices ! _ (ends-at 𝓤 H A carry-over.ended stayed (carry-over.clauses 𝓤 H A mem run) W bound (lowK short) short (tt, (tt, (rs, tt))) (tt, (tt, (refl, tt)))) $ says ! (refused s₀ xs rs e) $
+      suffices ! _ (ends-at 𝓤 H A carry-over.ended stayed (carry-over.clauses 𝓤 H A mem run) W bound (lowK short) short (tt, (tt, (rs, tt))) (tt, (tt, (refl, tt)))) $ says ! (laws s₀ xs rs .refused e) $
       frame ! $ frame ! $ owned ! K.the-row (Is K.the-row) (LL.makes K.the-type K′.the-plain 𝓤 H A) short (lowK short ∷ []) (okK s₀ (Refused ResultsShort) ok₀ okRefused) $ done !
 
   -- and after the last turn
@@ -231,7 +231,7 @@ module _ {M : Type 1} (𝓤 : URA M) (H : Heap 𝓤) (A : Atoms 𝓤) (W : Given
       qed W (‵ (flft κ q) ∷ ‵ (fobs γ′ (codedHoleys u8 .code (heres u8 (t .zs)))) ∷ ‵ (fbor κ′ (Held u8 (length (t .zs)) b′ o′ γ′)) ∷ ‵ (flft κ′ q′)
       ∷ ‵ (fshr-bor κ (λ z. arr-parts (shares R.the-row) n .part z xs b o)) ∷ ‵ (fres γ (codedHoleys R.the-row .code (heres R.the-row xs))) ∷ []) ∵
       suffices ! _ (ends-at 𝓤 H A carry-over.ended stayed (carry-over.clauses 𝓤 H A mem run) W bound (lowK (full (t .book))) (full (t .book)) (tt, (tt, (t .zs, tt))) (tt, (tt, (t .len, tt)))) $
-      says ! (accepted s₀ xs rs t fit ge) $
+      says ! (laws s₀ xs rs .accepted t fit ge) $
       -- what results owns, at zs
       move ! (1 ∷ 2 ∷ []) $ fjoin ! $ pureI ! (at-slice u8 (record { ptr = (b′, o′); name = γ′; now = t .zs }) (sliceVal (b′, o′) m ∷ [])) (tt, (tt, tt)) (ap (λ (k : ℕ). sliceVal (b′, o′) k ∷ []) (sym (t .len)), subst (Room u8) (sym (t .len)) gm) $ fjoin ! $
       nothing ! $ move ! (1 ∷ 0 ∷ []) $ fjoin ! $
@@ -296,7 +296,7 @@ module _ {M : Type 1} (𝓤 : URA M) (H : Heap 𝓤) (A : Atoms 𝓤) (W : Given
         use2 W (raw (PostC 𝓤 H A W mem run .pre (to 𝓤 H A W mem run (t .book) x))) (goes-post 𝓤 H A W mem run (t .book) x) $
         calls-at ! (fmOf 𝓤 H (W .laws) 𝓣) (PostC 𝓤 H A W mem run) known (to 𝓤 H A W mem run (t .book) x) (and-then ! (load ! (from ! (stop !)) (look ! 41 refl)) (and-then ! (load ! (from ! (stop !)) (look ! 15 refl)) (no-more !))) (λ u.
         use1 W (later (some (λ (r : Posted). (‵ ftrue ⊛ ‵ (P.the-row .own r (u ∷ []))) ⊛ raw (ensured 𝓤 H A post.ended (post.clauses 𝓤 H A mem run) tt (t .book, (x, tt)) tt r)))) (id⊢ 𝓤 _) $ await ! tt $ pick ! (λ r.
-        split ! $ move ! (1 ∷ []) $ use1 W (raw (fact 𝓤 (resultOf r ≡ postOf (t .book) x))) (said-of 𝓤 H A W mem run (t .book) x r) $ heard ! (resultOf r ≡ postOf (t .book) x) (λ er. split ! $ drop ! $
+        split ! $ move ! (1 ∷ []) $ use1 W (raw (fact 𝓤 (postedReply r ≡ postOf (t .book) x))) (said-of 𝓤 H A W mem run (t .book) x r) $ heard ! (postedReply r ≡ postOf (t .book) x) (λ er. split ! $ drop ! $
         facts ! P.the-row (Is P.the-row) (shows 𝓤 H A P.the-row) r (u ∷ []) (λ is.
         land ! (from ! (stop !)) (init ! 32 refl (LL.lawful P.the-type P′.the-laws 𝓤 H A W .typed r (u ∷ []) is .0)) $
         rewrite ! 32 (λ (v : Val). ‵ (fat fullShare P′.mir l₅ 0 v)) (ap only (LL.tells P.the-type P′.the-laws r (u ∷ []) is)) refl $
@@ -305,22 +305,22 @@ module _ {M : Type 1} (𝓤 : URA M) (H : Heap 𝓤) (A : Atoms 𝓤) (W : Given
         use1 W (raw (NumberC 𝓤 H A W mem run .pre (to-number 𝓤 H A W mem run (r .answer)))) (goes-number 𝓤 H A W mem run (r .answer)) $
         calls-at ! (fmOf 𝓤 H (W .laws) 𝓣) (NumberC 𝓤 H A W mem run) known-number (to-number 𝓤 H A W mem run (r .answer)) (and-then ! (load ! (from ! (fld ! refl (stop !))) (look-in ! 33 (sub ! 1 refl (whole !)))) (no-more !)) (λ v.
         use1 W (later (some (λ (k : ℕ). (‵ ftrue ⊛ ‵ (u8 .own k (v ∷ []))) ⊛ raw (ensured 𝓤 H A number.ended (number.clauses 𝓤 H A mem run) tt (r .answer, tt) tt k)))) (id⊢ 𝓤 _) $ await ! tt $ pick ! (λ k.
-        split ! $ move ! (1 ∷ []) $ use1 W (raw (fact 𝓤 (k ≡ replyOf (r .answer) .refusal))) (number-of 𝓤 H A W mem run (r .answer) k) $ heard ! (k ≡ replyOf (r .answer) .refusal) (λ ek. split ! $ drop ! $
+        split ! $ move ! (1 ∷ []) $ use1 W (raw (fact 𝓤 (k ≡ postingReplyOf (r .answer) .refusal))) (number-of 𝓤 H A W mem run (r .answer) k) $ heard ! (k ≡ postingReplyOf (r .answer) .refusal) (λ ek. split ! $ drop ! $
         facts ! u8 (Is u8) (shows 𝓤 H A u8) k (v ∷ []) (λ iv.
         land ! (from ! (stop !)) (init ! 12 refl (uint-lawful 𝓤 H A W w8 .typed k (v ∷ []) iv .0)) $
         rewrite ! 12 (λ (y : Val). ‵ (fat fullShare byte l₁₅ 0 y)) (ap only (uint-tells w8 k (v ∷ []) iv)) refl $
         -- the place of results[i], and the number, stored there
         assigns ! (bin ! (load ! (from ! (fld ! refl (stop !))) (look-in ! 36 (sub ! 0 refl (whole !)))) (load ! (from ! (stop !)) (look ! 34 refl)) tt) (from ! (stop !)) (init ! 10 refl (tt, tt)) $
         rewrite ! 10 (λ (p : ℕ). ‵ (fat fullShare tyPtr l₁₆ 0 (vptr b′ p))) (sym (place-byte o′ (t .i))) refl $
-        move ! (3 ∷ []) $ elem-out ! u8 (Is u8) (shows 𝓤 H A u8) (uint-vals w8) (uint-tells w8) fullShare (t .zs) (t .i) 0 b′ o′ (here s₀ xs rs t lt fit) (λ gz.
+        move ! (3 ∷ []) $ elem-out ! u8 (Is u8) (shows 𝓤 H A u8) (uint-vals w8) (uint-tells w8) fullShare (t .zs) (t .i) 0 b′ o′ (laws s₀ xs rs .here t lt fit) (λ gz.
         assigns ! (of-opd ! (load ! (from ! (stop !)) (look ! 14 refl))) (from ! (hop ! (look ! 12 refl) (stop !))) (store ! 0 refl (tt, record { fits = iv .1 })) $
         move ! (1 ∷ []) $ drop ! $ owned ! u8 (Is u8) (uint-makes 𝓤 H A W w8) k (vint w8 k ∷ []) (refl, iv .1) $ move ! (1 ∷ 0 ∷ []) $
-        elem-put ! u8 fullShare (t .zs) (t .i) k (vint w8 k ∷ []) b′ o′ (here s₀ xs rs t lt fit) $ move ! (1 ∷ 2 ∷ 3 ∷ []) $
+        elem-put ! u8 fullShare (t .zs) (t .i) k (vint w8 k ∷ []) b′ o′ (laws s₀ xs rs .here t lt fit) $ move ! (1 ∷ 2 ∷ 3 ∷ []) $
         -- the next book, and the next place
         assigns ! (of-opd ! (load ! (from ! (fld ! refl (stop !))) (look-in ! 32 (sub ! 0 refl (whole !))))) (from ! (stop !)) (store ! 40 refl (LL.lawful B.the-type B′.the-laws 𝓤 H A W .typed (r .book) (lowB (r .book) ∷ []) (after r u is) .0)) $
         assigns-last ! (bin ! (load ! (from ! (stop !)) (look ! 34 refl)) (lit ! tt) (record { fits = next-fits })) (from ! (stop !)) (store ! 34 refl (tt, record { fits = next-fits })) $
         forget ! 10 refl $ forget ! 12 refl $ forget ! 14 refl $ forget ! 16 refl $ forget ! 18 refl $ forget ! 20 refl $ forget ! 32 refl $
-        again ! Less I t (next s₀ xs rs t lt fit (r .book) k (ap (λ (p : Result). p .book) er) (ek ∙ ap (λ (p : Result). p .reply .refusal) er) (after r u is)) (less s₀ xs rs t lt fit)))))))))))
+        again ! Less I t (next s₀ xs rs t lt fit (r .book) k (ap (λ (p : PostedReply). p .book) er) (ek ∙ ap (λ (p : PostedReply). p .reply .refusal) er) (after r u is)) (laws s₀ xs rs .less t lt)))))))))))
       where
         lt : t .i < n
         lt = ltb-true (t .i) n e
@@ -399,7 +399,7 @@ module _ {M : Type 1} (𝓤 : URA M) (H : Heap 𝓤) (A : Atoms 𝓤) (W : Given
       -- [the entries; the open borrow; the fractured borrow; the results; the open borrow; obs; auth; true; true; res; the locals]
       move ! (7 ∷ 8 ∷ []) $ drop ! $ drop ! $ by ! (looped 𝓣 known known-number (nltb→le m n y) z l₀ l₁ l₂ l₃ l₄ l₅ l₆ l₇ l₈ l₉ l₁₀ l₁₁ l₁₂ l₁₃ l₁₄ l₁₅ l₁₆ l₁₇)))))))))))))))))))))
 
--- ---- the walk is taken to the contract
+-- THE WALK IS TAKEN TO THE CONTRACT
 module _ {M : Type 1} (𝓤 : URA M) (H : Heap 𝓤) (A : Atoms 𝓤) (W : Given 𝓤 H A) (mem : Memory → SProp 𝓤) (run : Routine → Fun 𝓤) where
   carry-over-walks : (𝓣 : Tables 𝓤 H) → Triple 𝓤 (𝓣 .C post-def.name) (PostC 𝓤 H A W mem run) → Triple 𝓤 (𝓣 .C number-def.name) (NumberC 𝓤 H A W mem run)
       → Walks 𝓤 H A carry-over.ended stayed (WpFn 𝓤 H (𝓣 .C) (𝓣 .Λ) code.function) (carry-over.clauses 𝓤 H A mem run)

@@ -6,8 +6,9 @@ use denote.Ref.{now}
 use lib.ListN.{length, length-take}
 use lib.Dec.{eqb}
 use borrow.Author.Tests.{not-true, not-false, eq-eqb, ne-eqb}
-use Rattle.codec.specs.Headers.{fitsOf, marked, countIn, checkOf}
-use Rattle.entries.proofs.Rows.{refused-stays}
+use Rattle.codec.specs.Records.{recordBytes}
+use Rattle.codec.specs.Headers.{longestImage, fitsOf, marked, countIn, checkOf}
+use Rattle.entries.proofs.RefusalsLaws.{refused-stays}
 use Rattle.codec.proofs.Headers.{fits-ends, rule-broken, rule-kept}
 use borrow.Author.Needs.{needs}
 use Rattle.codec.proofs.check.Statement.{statement}
@@ -16,14 +17,11 @@ use Rattle.codec.proofs.check.Tie as tie
 fitting : (c : tie.Else1) → fitsOf (length (now (c .before .before .before .args .image))) ≡ true
 fitting c = sym (c .before .fits2 .ensures) ∙ not-false _ (c .if1 .left)
 
-ends : (c : tie.Else1) → (24 ≤ length (now (c .before .before .before .args .image))) × (length (now (c .before .before .before .args .image)) ≤ 24600) × (length (now (c .before .before .before .args .image)) % 24 ≡ 0)
+ends : (c : tie.Else1) → (recordBytes ≤ length (now (c .before .before .before .args .image))) × (length (now (c .before .before .before .args .image)) ≤ longestImage) × (length (now (c .before .before .before .args .image)) % recordBytes ≡ 0)
 ends c = fits-ends (length (now (c .before .before .before .args .image))) (fitting c)
 
 marks : (c : tie.After-both) → c .both .result ≡ marked (now (c .before .before .before .before .before .before .before .before .before .before .args .image))
 marks c = simp (c .both .ensures, c .before .same2 .ensures, c .before .before .before .before .same .ensures)
-
-fits-requires : tie.Need-fits-requires
-fits-requires c κs = search needs
 
 returns : tie.Need-returns
 unfolding checkOf
@@ -34,41 +32,14 @@ returns c =
 slice-aggregate-same : tie.Need-slice-aggregate-same
 slice-aggregate-same c = let h = ends (c .before) in simp length-take (omega arith)
 
-slice-aggregate-same-2 : tie.Need-slice-aggregate-same-2
-slice-aggregate-same-2 c = search needs
-
-same-requires : tie.Need-same-requires
-same-requires c κs = search needs
-
-sub-same : tie.Need-sub-same
-sub-same c = search needs
-
-part-same-start : tie.Need-part-same-start
-part-same-start c = search needs
-
 part-same-end : tie.Need-part-same-end
 part-same-end c = let h = ends (c .before .before .before) in omega arith
-
-slice-aggregate-same-3 : tie.Need-slice-aggregate-same-3
-slice-aggregate-same-3 c = search needs
-
-same-requires-2 : tie.Need-same-requires-2
-same-requires-2 c κs = search needs
-
-both-requires : tie.Need-both-requires
-both-requires c κs = search needs
 
 returns-2 : tie.Need-returns-2
 unfolding checkOf
 returns-2 c =
     let wrong : marked (now (c .before .before .before .before .before .before .before .before .before .before .before .args .image)) ≡ false = sym (marks (c .before)) ∙ not-true _ (c .if2 .taken) in
     simp (fitting (c .before .before .before .before .before .before .before .before), wrong, rule-kept, rule-broken, refused-stays)
-
-count-in-requires : tie.Need-count-in-requires
-count-in-requires c κs = search needs
-
-cast-if3 : tie.Need-cast-if3
-cast-if3 c = search needs
 
 sub-if3 : tie.Need-sub-if3
 sub-if3 c = let h = ends (c .before .before .before .before .before .before .before .before .before) in omega arith
@@ -77,34 +48,18 @@ returns-3 : tie.Need-returns-3
 unfolding checkOf
 returns-3 c =
     let right : marked (now (c .before .before .before .before .before .before .before .before .before .before .before .before .before .args .image)) ≡ true = sym (marks (c .before .before .before)) ∙ not-false _ (c .before .before .if2 .left) in
-    let other : eqb (countIn (now (c .before .before .before .before .before .before .before .before .before .before .before .before .before .args .image))) (length (now (c .before .before .before .before .before .before .before .before .before .before .before .before .before .args .image)) / 24 - 1) ≡ false = ne-eqb _ _ (λ e. c .if3 .taken (c .before .count-in .ensures ∙ e)) in
+    let other : eqb (countIn (now (c .before .before .before .before .before .before .before .before .before .before .before .before .before .args .image))) (length (now (c .before .before .before .before .before .before .before .before .before .before .before .before .before .args .image)) / recordBytes - 1) ≡ false = ne-eqb _ _ (λ e. c .if3 .taken (c .before .count-in .ensures ∙ e)) in
     simp (fitting (c .before .before .before .before .before .before .before .before .before .before), right, other, rule-kept, rule-broken)
 
 returns-4 : tie.Need-returns-4
 unfolding checkOf
 returns-4 c =
     let right : marked (now (c .before .before .before .before .before .before .before .before .before .before .before .before .before .args .image)) ≡ true = sym (marks (c .before .before .before)) ∙ not-false _ (c .before .before .if2 .left) in
-    let same : eqb (countIn (now (c .before .before .before .before .before .before .before .before .before .before .before .before .before .args .image))) (length (now (c .before .before .before .before .before .before .before .before .before .before .before .before .before .args .image)) / 24 - 1) ≡ true = eq-eqb _ _ (sym (c .before .count-in .ensures) ∙ c .if3 .left) in
+    let same : eqb (countIn (now (c .before .before .before .before .before .before .before .before .before .before .before .before .before .args .image))) (length (now (c .before .before .before .before .before .before .before .before .before .before .before .before .before .args .image)) / recordBytes - 1) ≡ true = eq-eqb _ _ (sym (c .before .count-in .ensures) ∙ c .if3 .left) in
     simp (fitting (c .before .before .before .before .before .before .before .before .before .before), right, same, rule-kept)
 
 pub check-spec : {M : Type 1} → statement M
 check-spec =
-    tie.close
-    (tie.spec
-    fits-requires
-    returns
-    slice-aggregate-same
-    slice-aggregate-same-2
-    same-requires
-    sub-same
-    part-same-start
-    part-same-end
-    slice-aggregate-same-3
-    same-requires-2
-    both-requires
-    returns-2
-    count-in-requires
-    cast-if3
-    sub-if3
-    returns-3
-    returns-4)
+    tie.close (tie.spec (λ c κs. search needs) returns slice-aggregate-same (λ c. search needs) (λ c κs. search needs) (λ c. search needs)
+    (λ c. search needs) part-same-end (λ c. search needs) (λ c κs. search needs) (λ c κs. search needs) returns-2 (λ c κs. search needs)
+    (λ c. search needs) sub-if3 returns-3 returns-4)

@@ -11,35 +11,12 @@ use Rattle.lines.proofs.account_line.Tie as tie
 written : (c : tie.After-decimal) → (c .decimal .result ≤ 20) × (take (c .decimal .result) (c .decimal .last .1 .0) ≡ digits (c .before .before .before .args .account))
 written c = shown (c .before .before .before .args .account) (c .decimal .result) (c .decimal .last .1 .0) (omega arith) (c .decimal .ensures .1)
 
-decimal-requires : tie.Need-decimal-requires
-decimal-requires c κs = search needs
-
-array-share-prefix-shown : tie.Need-array-share-prefix-shown
-array-share-prefix-shown c = search needs
-
-slice-aggregate-line : tie.Need-slice-aggregate-line
-slice-aggregate-line c = search needs
-
-slice-aggregate-line-2 : tie.Need-slice-aggregate-line-2
-slice-aggregate-line-2 c = search needs
-
 line-requires : tie.Need-line-requires
 line-requires c κs = omega (arith, written (c .before .before .before) .0, c .before .before .before .decimal .ensures .0 .1)
-
-same-length : tie.Need-same-length
-same-length c = search needs
 
 returns : tie.Need-returns
 returns c = rw (written (c .before .before .before .before .before .before) .1) at (c .before .before .line .ensures)
 
 pub account-line-spec : {M : Type 1} → statement M
 account-line-spec =
-    tie.close
-    (tie.spec
-    decimal-requires
-    array-share-prefix-shown
-    slice-aggregate-line
-    slice-aggregate-line-2
-    line-requires
-    same-length
-    returns)
+    tie.close (tie.spec (λ c κs. search needs) (λ c. search needs) (λ c. search needs) (λ c. search needs) line-requires (λ c. search needs) returns)

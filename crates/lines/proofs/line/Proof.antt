@@ -6,8 +6,8 @@ use denote.Ref.{now}
 use lib.ListN.{length, take, drop}
 use lib.Seq.{length-take-le}
 use Rattle.lines.specs.Lines.{newline, longestLine, numbersOf, lineOf}
-use Rattle.lines.proofs.Buffers.{Appended, appended}
-use Rattle.lines.proofs.Text.{next-number, finished}
+use Rattle.buffers.proofs.Buffers.{Appended, appended}
+use Rattle.lines.proofs.Lines.{next-number, finished}
 use borrow.Author.Needs.{needs}
 use Rattle.lines.proofs.line.Statement.{statement}
 use Rattle.lines.proofs.line.Tie as tie
@@ -30,35 +30,11 @@ inside c = omega (arith, ended c .end)
 whole : (c : tie.After-put2 Inv-loop μ-loop) → take (c .put2 .result) (c .put2 .last .0) ≡ lineOf (now (c .before .before .before .before .before .before .before .before .before .before .before .args .word)) (now (c .before .before .before .before .before .before .before .before .before .before .before .args .numbers))
 whole c = ended c .front ∙ finished (now (c .before .before .before .before .before .before .before .before .before .before .before .args .word)) (now (c .before .before .before .before .before .before .before .before .before .before .before .args .numbers)) (take (c .before .before .before .before .loop .n) (c .before .before .before .before .loop .text)) (c .before .before .before .before .loop .i) (omega arith) (c .before .before .before .before .loop .inv .3)
 
-slice-aggregate-put : tie.Need-slice-aggregate-put Inv-loop μ-loop
-slice-aggregate-put c = search needs
-
-put-requires : tie.Need-put-requires Inv-loop μ-loop
-put-requires c κs = search needs
-
 loop-holds : tie.Need-loop-holds Inv-loop μ-loop
 unfolding lineOf
 loop-holds c =
     let a = appended (now (c .before .before .before .before .before .before .args .word)) _ (c .before .put .last .0) 0 (c .before .put .result) (omega arith) (c .before .put .ensures) in
     (omega arith, search needs, omega (arith, a .end), rw (a .front))
-
-slice-aggregate-number : tie.Need-slice-aggregate-number Inv-loop μ-loop
-slice-aggregate-number c = search needs
-
-mul-number : tie.Need-mul-number Inv-loop μ-loop
-mul-number c = search needs
-
-shared-slice-read-number : tie.Need-shared-slice-read-number Inv-loop μ-loop
-shared-slice-read-number c = search needs
-
-number-requires : tie.Need-number-requires Inv-loop μ-loop
-number-requires c κs = search needs
-
-add-i : tie.Need-add-i Inv-loop μ-loop
-add-i c = search needs
-
-loop-less : tie.Need-loop-less Inv-loop μ-loop
-loop-less c = search needs
 
 loop-again : tie.Need-loop-again Inv-loop μ-loop
 loop-again c = (
@@ -68,26 +44,11 @@ loop-again c = (
   next-number (now (c .before .before .before .before .before .before .before .before .before .before .before .before .args .word)) (now (c .before .before .before .before .before .before .before .before .before .before .before .before .args .numbers)) (take (c .before .before .before .before .before .loop .n) (c .before .before .before .before .before .loop .text)) _ (c .before .before .before .before .before .loop .i) (omega arith) (c .before .before .before .before .before .loop .inv .3) (c .before .number .ensures .1),
 )
 
-slice-aggregate-put-2 : tie.Need-slice-aggregate-put-2 Inv-loop μ-loop
-slice-aggregate-put-2 c = search needs
-
-slice-aggregate-put-3 : tie.Need-slice-aggregate-put-3 Inv-loop μ-loop
-slice-aggregate-put-3 c = search needs
-
-put-requires-2 : tie.Need-put-requires-2 Inv-loop μ-loop
-put-requires-2 c κs = search needs
-
 array-share-prefix-text : tie.Need-array-share-prefix-text Inv-loop μ-loop
 array-share-prefix-text c = omega (arith, inside (c .before .before))
 
 slice-aggregate-put-4 : tie.Need-slice-aggregate-put-4 Inv-loop μ-loop
 slice-aggregate-put-4 c = sym (length-take-le _ _ (omega (arith, inside (c .before .before .before))))
-
-put-requires-3 : tie.Need-put-requires-3 Inv-loop μ-loop
-put-requires-3 c κs = search needs
-
-same-length : tie.Need-same-length Inv-loop μ-loop
-same-length c = search needs
 
 returns : tie.Need-returns Inv-loop μ-loop
 returns c =
@@ -96,25 +57,6 @@ returns c =
 
 pub line-spec : {M : Type 1} → statement M
 line-spec =
-    tie.close
-    (tie.spec
-    Inv-loop
-    μ-loop
-    slice-aggregate-put
-    put-requires
-    loop-holds
-    slice-aggregate-number
-    mul-number
-    shared-slice-read-number
-    number-requires
-    add-i
-    loop-less
-    loop-again
-    slice-aggregate-put-2
-    slice-aggregate-put-3
-    put-requires-2
-    array-share-prefix-text
-    slice-aggregate-put-4
-    put-requires-3
-    same-length
-    returns)
+    tie.close (tie.spec Inv-loop μ-loop (λ c. search needs) (λ c κs. search needs) loop-holds (λ c. search needs) (λ c. search needs)
+    (λ c. search needs) (λ c κs. search needs) (λ c. search needs) (λ c. search needs) loop-again (λ c. search needs) (λ c. search needs)
+    (λ c κs. search needs) array-share-prefix-text slice-aggregate-put-4 (λ c κs. search needs) (λ c. search needs) returns)

@@ -4,32 +4,11 @@ use native.Mathlib.Omega.{arith}
 use denote.Ref.{now}
 use lib.ListN.{take}
 use Rattle.lines.specs.Lines.{space}
-use Rattle.lines.proofs.Buffers.{appended}
+use Rattle.buffers.proofs.Buffers.{appended}
 use Rattle.lines.proofs.Decimal.{shown}
 use borrow.Author.Needs.{needs}
 use Rattle.lines.proofs.number.Statement.{statement}
 use Rattle.lines.proofs.number.Tie as tie
-
-decimal-requires : tie.Need-decimal-requires
-decimal-requires c κs = search needs
-
-slice-aggregate-put : tie.Need-slice-aggregate-put
-slice-aggregate-put c = search needs
-
-put-requires : tie.Need-put-requires
-put-requires c κs = search needs
-
-array-share-prefix-shown : tie.Need-array-share-prefix-shown
-array-share-prefix-shown c = search needs
-
-slice-aggregate-put-2 : tie.Need-slice-aggregate-put-2
-slice-aggregate-put-2 c = search needs
-
-put-requires-2 : tie.Need-put-requires-2
-put-requires-2 c κs = search needs
-
-same-length : tie.Need-same-length
-same-length c = search needs
 
 returns : tie.Need-returns
 returns c =
@@ -41,13 +20,5 @@ returns c =
 
 pub number-spec : {M : Type 1} → statement M
 number-spec =
-    tie.close
-    (tie.spec
-    decimal-requires
-    slice-aggregate-put
-    put-requires
-    array-share-prefix-shown
-    slice-aggregate-put-2
-    put-requires-2
-    same-length
-    returns)
+    tie.close (tie.spec (λ c κs. search needs) (λ c. search needs) (λ c κs. search needs) (λ c. search needs) (λ c. search needs)
+    (λ c κs. search needs) (λ c. search needs) returns)

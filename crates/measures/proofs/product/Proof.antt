@@ -11,9 +11,6 @@ use Rattle.measures.proofs.product.Tie as tie
 returns : tie.Need-returns
 returns c = sym (ap (λ (k : ℕ). min (c .before .args .a * k) most) (c .if1 .taken) ∙ ap (λ (k : ℕ). min k most) (mul-zero _))
 
-div-if2 : tie.Need-div-if2
-div-if2 c = search needs
-
 mul-result : tie.Need-mul-result
 mul-result c = let h : _ ≤ _ = le-div-iff-mul-le (above (c .before .if1 .left)) .0 (c .if2 .taken) in omega arith
 
@@ -24,4 +21,4 @@ returns-3 : tie.Need-returns-3
 returns-3 c = sym (min-eq-right (le-of-lt (div-lt-iff-lt-mul (above (c .before .if1 .left)) .0 (c .if2 .left))))
 
 pub product-spec : {M : Type 1} → statement M
-product-spec = tie.close (tie.spec returns div-if2 mul-result returns-2 returns-3)
+product-spec = tie.close (tie.spec returns (λ c. search needs) mul-result returns-2 returns-3)

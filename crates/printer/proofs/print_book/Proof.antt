@@ -4,12 +4,12 @@ use native.Mathlib.Omega.{arith}
 use denote.Ref.{now}
 use lib.ListN.{length}
 use Rattle.lines.specs.Lines.{longestLine, endLine}
-use Rattle.lines.specs.Buffers.{writtenAt}
-use Rattle.lines.proofs.Buffers.{written, Holds, appended, holds-none, holds-more, holds-length, holds-all}
+use Rattle.buffers.specs.Buffers.{writtenAt}
+use Rattle.buffers.proofs.Buffers.{written, Holds, appended, holds-none, holds-more, holds-length, holds-all}
 use Rattle.book.specs.Fresh.{accountsMost}
 use Rattle.book.proofs.Chain.{slot-inside}
 use Rattle.printer.specs.Printed.{statementLine, accountLines}
-use Rattle.printer.proofs.Accounts.{turn-more, turn-same}
+use Rattle.printer.proofs.PrintedLaws.{turn-more, turn-same}
 use borrow.Author.Needs.{needs}
 use Rattle.printer.proofs.print_book.Statement.{statement}
 use Rattle.printer.proofs.print_book.Tie as tie
@@ -25,29 +25,11 @@ loop-holds : tie.Need-loop-holds Inv-loop μ-loop
 unfolding accountLines
 loop-holds c = (omega arith, refl, omega arith, holds-none (now (c .before .args .text)))
 
-cast-loop : tie.Need-cast-loop Inv-loop μ-loop
-cast-loop c = search needs
-
-add-account : tie.Need-add-account Inv-loop μ-loop
-add-account c = search needs
-
-slot-requires : tie.Need-slot-requires Inv-loop μ-loop
-slot-requires c κs = search needs
-
 mul-own : tie.Need-mul-own Inv-loop μ-loop
 mul-own c = omega (arith, slot-inside (c .before .before .loop .account + 1))
 
 element-copy-out-own : tie.Need-element-copy-out-own Inv-loop μ-loop
 element-copy-out-own c = omega (arith, slot-inside (c .before .before .loop .account + 1))
-
-statement-requires : tie.Need-statement-requires Inv-loop μ-loop
-statement-requires c κs = search needs
-
-reply-requires : tie.Need-reply-requires Inv-loop μ-loop
-reply-requires c κs = search needs
-
-account-line-requires : tie.Need-account-line-requires Inv-loop μ-loop
-account-line-requires c κs = search needs
 
 loop-less : tie.Need-loop-less Inv-loop μ-loop
 loop-less c = omega arith
@@ -69,15 +51,6 @@ loop-again-2 c =
     let l = c .before .before .before .before .before .loop in
     (omega arith, omega arith, omega arith, turn-same (c .before .before .before .before .before .before .before .args .t1) (l .account) (c .before .before .before .slot .result) (c .before .before .before .slot .ensures) (now (c .before .before .before .before .before .before .before .args .text)) (l .text) (l .at) (c .if1 .left) (l .inv .3))
 
-cast-end-line : tie.Need-cast-end-line Inv-loop μ-loop
-cast-end-line c = search needs
-
-end-line-requires : tie.Need-end-line-requires Inv-loop μ-loop
-end-line-requires c κs = search needs
-
-same-length : tie.Need-same-length Inv-loop μ-loop
-same-length c = search needs
-
 returns : tie.Need-returns Inv-loop μ-loop
 returns c =
     let l = c .before .before .before .before .before .loop in
@@ -89,24 +62,6 @@ returns c =
 
 pub print-book-spec : {M : Type 1} → statement M
 print-book-spec =
-    tie.close
-    (tie.spec
-    Inv-loop
-    μ-loop
-    loop-holds
-    cast-loop
-    add-account
-    slot-requires
-    mul-own
-    element-copy-out-own
-    statement-requires
-    reply-requires
-    account-line-requires
-    loop-less
-    loop-again
-    loop-less-2
-    loop-again-2
-    cast-end-line
-    end-line-requires
-    same-length
-    returns)
+    tie.close (tie.spec Inv-loop μ-loop loop-holds (λ c. search needs) (λ c. search needs) (λ c κs. search needs) mul-own element-copy-out-own
+    (λ c κs. search needs) (λ c κs. search needs) (λ c κs. search needs) loop-less loop-again loop-less-2 loop-again-2 (λ c. search needs)
+    (λ c κs. search needs) (λ c. search needs) returns)

@@ -1,14 +1,11 @@
 use mathlib.Core.Path.{sym}
 use lib.Seq.{length-take-le}
-use Rattle.image.specs.Loads.{loadedReply}
+use Rattle.replays.specs.Loaded.{loadedReply}
 use Rattle.printer.specs.Printed.{printedOf}
-use Rattle.printer.proofs.Accounts.{within}
+use Rattle.printer.proofs.PrintedLaws.{within}
 use borrow.Author.Needs.{needs}
 use Rattle.printer.proofs.print_loaded.Statement.{statement}
 use Rattle.printer.proofs.print_loaded.Tie as tie
-
-printed-requires : tie.Need-printed-requires
-printed-requires c κs = search needs
 
 array-share-prefix-text : tie.Need-array-share-prefix-text
 array-share-prefix-text c = within (printedOf (loadedReply (c .before .before .args .loaded))) _ _ _ (c .printed .ensures)
@@ -16,18 +13,6 @@ array-share-prefix-text c = within (printedOf (loadedReply (c .before .before .a
 slice-aggregate-write-all : tie.Need-slice-aggregate-write-all
 slice-aggregate-write-all c = sym (length-take-le _ _ (within (printedOf (loadedReply (c .before .before .before .args .loaded))) _ _ _ (c .before .printed .ensures)))
 
-write-all-requires : tie.Need-write-all-requires
-write-all-requires c κs = search needs
-
-returns : tie.Need-returns
-returns c = search needs
-
 pub print-loaded-spec : {M : Type 1} → statement M
 print-loaded-spec =
-    tie.close
-    (tie.spec
-    printed-requires
-    array-share-prefix-text
-    slice-aggregate-write-all
-    write-all-requires
-    returns)
+    tie.close (tie.spec (λ c κs. search needs) array-share-prefix-text slice-aggregate-write-all (λ c κs. search needs) (λ c. search needs))

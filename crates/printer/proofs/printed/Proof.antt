@@ -1,32 +1,11 @@
 use mathlib.Core.List.{[]}
 use native.Mathlib.Omega.{arith}
 use denote.Ref.{now}
-use Rattle.lines.proofs.Buffers.{holds-none, holds-more, holds-length, holds-all}
-use Rattle.printer.proofs.Accounts.{printed-book, printed-refused}
+use Rattle.buffers.proofs.Buffers.{holds-none, holds-more, holds-length, holds-all}
+use Rattle.printer.proofs.PrintedLaws.{printed-book, printed-refused}
 use borrow.Author.Needs.{needs}
 use Rattle.printer.proofs.printed.Statement.{statement}
 use Rattle.printer.proofs.printed.Tie as tie
-
-enum-told : tie.Need-enum-told
-enum-told c = search needs
-
-print-book-requires : tie.Need-print-book-requires
-print-book-requires c κs = search needs
-
-enum-known-answer : tie.Need-enum-known-answer
-enum-known-answer c = search needs
-
-number-requires : tie.Need-number-requires
-number-requires c κs = search needs
-
-cast-refused-line : tie.Need-cast-refused-line
-cast-refused-line c = search needs
-
-cast-refused-line-2 : tie.Need-cast-refused-line-2
-cast-refused-line-2 c = search needs
-
-refused-line-requires : tie.Need-refused-line-requires
-refused-line-requires c κs = search needs
 
 returns : tie.Need-returns
 returns c = rw (printed-book (c .before .before .before .before .before .args .loaded) (c .before .before .before .enum-told .given .1)) (c .print-book .ensures)
@@ -40,14 +19,5 @@ returns-2 c =
 
 pub printed-spec : {M : Type 1} → statement M
 printed-spec =
-    tie.close
-    (tie.spec
-    enum-told
-    print-book-requires
-    enum-known-answer
-    number-requires
-    cast-refused-line
-    cast-refused-line-2
-    refused-line-requires
-    returns
-    returns-2)
+    tie.close (tie.spec (λ c. search needs) (λ c κs. search needs) (λ c. search needs) (λ c κs. search needs) (λ c. search needs) (λ c. search needs)
+    (λ c κs. search needs) returns returns-2)

@@ -5,7 +5,7 @@
 use crate::cases::{Call, Case};
 use contribution_book::plain::{parse_record, Raw, ENTRIES, RECORD};
 use contribution_book::proved::{
-    self, Carried, Checked, ContributionGiven, Posted, StatementGiven, LONGEST,
+    self, CarryGiven, CheckGiven, ContributionGiven, PostingGiven, StatementGiven, LONGEST_IMAGE,
 };
 use contribution_book::{by_value, plain};
 
@@ -22,7 +22,7 @@ impl Buffers {
     pub fn new() -> Buffers {
         Buffers {
             results: vec![0xEE; ENTRIES],
-            output: vec![0xEE; LONGEST],
+            output: vec![0xEE; LONGEST_IMAGE],
         }
     }
 }
@@ -30,9 +30,9 @@ impl Buffers {
 /// What a call gives.
 #[derive(Debug, PartialEq, Eq)]
 pub enum Answer {
-    Checked(Checked),
-    Posted(Posted),
-    Carried(Carried),
+    Checked(CheckGiven),
+    Posted(PostingGiven),
+    Carried(CarryGiven),
     Statement(StatementGiven),
     Contribution(ContributionGiven),
 }
@@ -138,22 +138,22 @@ fn entries(run: &[u8]) -> Vec<Raw> {
 }
 
 fn checked(count: usize) -> Answer {
-    Answer::Checked(Checked {
+    Answer::Checked(CheckGiven {
         entries: count as u16,
-        ..Checked::default()
+        ..CheckGiven::default()
     })
 }
 
 /// A posting's answer, with the save's refusal number and bytes.
-fn posted(reply: plain::Reply, refusal: u8, bytes: usize) -> Answer {
+fn posted(reply: plain::PostingReply, refusal: u8, bytes: usize) -> Answer {
     assert_eq!(refusal, 0);
-    Answer::Posted(Posted::new(reply, bytes))
+    Answer::Posted(PostingGiven::new(reply, bytes))
 }
 
 fn carried(refusal: u8, bytes: usize) -> Answer {
-    Answer::Carried(Carried {
+    Answer::Carried(CarryGiven {
         refusal,
         bytes,
-        ..Carried::default()
+        ..CarryGiven::default()
     })
 }

@@ -172,7 +172,7 @@ pub fn image(entries: &[Raw]) -> Vec<u8> {
     for raw in entries {
         assert_eq!(book.post(raw).refusal, 0, "{raw:?}");
     }
-    let mut bytes = vec![0; LONGEST];
+    let mut bytes = vec![0; LONGEST_IMAGE];
     let (_, length) = book.save(&mut bytes);
     bytes.truncate(length);
     bytes

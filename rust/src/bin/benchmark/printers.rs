@@ -12,9 +12,9 @@ pub fn programs() -> [PathBuf; 4] {
     let root = Path::new(env!("CARGO_MANIFEST_DIR")).join("..");
     [
         benchmark.with_file_name("bare"),
-        root.join("target/bin/statements"),
-        benchmark.with_file_name("statements_plain"),
-        benchmark.with_file_name("statements_by_value"),
+        root.join("target/bin/statement_printer"),
+        benchmark.with_file_name("statement_printer_plain"),
+        benchmark.with_file_name("statement_printer_by_value"),
     ]
 }
 

@@ -94,9 +94,9 @@ pub const KINDS: [&str; 5] = ["check", "post", "carry over", "statement", "contr
 
 #[derive(Clone, Copy, Debug, PartialEq, Eq)]
 pub enum Answer {
-    Checked(Checked),
-    Posted(Posted),
-    Carried(Carried),
+    Checked(CheckGiven),
+    Posted(PostingGiven),
+    Carried(CarryGiven),
     Statement(StatementGiven),
     Contribution(ContributionGiven),
 }
@@ -116,20 +116,20 @@ impl Request {
     /// A refused call's answer: zeros but for the refusal and the record.
     pub fn refused(&self, refusal: u8, record: u16) -> Answer {
         match self {
-            Request::Check => Answer::Checked(Checked {
+            Request::Check => Answer::Checked(CheckGiven {
                 refusal,
                 record,
-                ..Checked::default()
+                ..CheckGiven::default()
             }),
-            Request::Post { .. } => Answer::Posted(Posted {
+            Request::Post { .. } => Answer::Posted(PostingGiven {
                 refusal,
                 record,
-                ..Posted::default()
+                ..PostingGiven::default()
             }),
-            Request::CarryOver { .. } => Answer::Carried(Carried {
+            Request::CarryOver { .. } => Answer::Carried(CarryGiven {
                 refusal,
                 record,
-                ..Carried::default()
+                ..CarryGiven::default()
             }),
             Request::Statement { .. } => Answer::Statement(StatementGiven {
                 refusal,

@@ -29,16 +29,16 @@ impl Pool {
         let count = 1 + random.below(4);
         let accounts = (0..count).map(|_| any_account(random)).collect();
         let mut kinds = vec![CONTRIBUTION, random.pick(&[BILL, PAYMENT])];
-        kinds.extend((0..6).map(|_| random.within(CONTRIBUTION..=CORRECTION)));
+        kinds.extend((0..6).map(|_| random.within(CONTRIBUTION..=LAST_KIND)));
         Pool {
             accounts,
             kinds,
-            least_amount: random.pick(&[1, 1, 1, MAX_AMOUNT / 10 * 9]),
+            least_amount: random.pick(&[1, 1, 1, AMOUNT_MOST / 10 * 9]),
         }
     }
 
     fn amount(&self, random: &mut Random) -> u32 {
-        random.sized(MAX_AMOUNT).max(self.least_amount)
+        random.sized(AMOUNT_MOST).max(self.least_amount)
     }
 }
 
@@ -128,7 +128,7 @@ fn any_day(random: &mut Random) -> u16 {
     match random.below(4) {
         0 => random.pick(&[0, 1, LAST_DAY - 1, LAST_DAY]),
         1 => random.within(0..=LAST_DAY),
-        _ => random.within(0..=4 * REFUND_DAYS),
+        _ => random.within(0..=4 * REFUND_PERIOD),
     }
 }
 
@@ -136,14 +136,14 @@ fn any_day(random: &mut Random) -> u16 {
 fn day_from(random: &mut Random, kind: u8, earlier: u16) -> u16 {
     let edges = match kind {
         DEPOSIT_RETURN => [0, 1, HALF_DAYS, 3 * HALF_DAYS, 5 * HALF_DAYS],
-        _ => [0, 1, REFUND_DAYS - 1, REFUND_DAYS, REFUND_DAYS + 1],
+        _ => [0, 1, REFUND_PERIOD - 1, REFUND_PERIOD, REFUND_PERIOD + 1],
     };
     let day = match random.below(8) {
         0 => return random.within(0..=earlier),
         1 => random.within(earlier..=LAST_DAY),
         2 | 3 => earlier + random.pick(&edges),
-        _ if kind == EXPIRY => earlier + REFUND_DAYS + random.within(0..=REFUND_DAYS),
-        _ => earlier + random.within(0..=REFUND_DAYS - 1),
+        _ if kind == EXPIRY => earlier + REFUND_PERIOD + random.within(0..=REFUND_PERIOD),
+        _ => earlier + random.within(0..=REFUND_PERIOD - 1),
     };
     day.min(LAST_DAY)
 }
@@ -232,7 +232,7 @@ fn name(random: &mut Random, raw: &mut Raw, earlier: Option<Raw>) {
 fn break_common_field(random: &mut Random, raw: &mut Raw) {
     let any = random.next();
     if random.one_in(64) {
-        raw.kind = random.pick(&[0, 9, 255, any as u8]);
+        raw.kind = random.pick(&[0, LAST_KIND + 1, 255, any as u8]);
     }
     if random.one_in(64) {
         raw.node = random.pick(&[0, 3, 255, any as u8]);
@@ -258,7 +258,7 @@ fn break_other_field(random: &mut Random, raw: &mut Raw) {
     let any = random.next();
     let past_period = (raw.a as u8).wrapping_add(1);
     match random.below(5) {
-        0 => raw.amount = random.pick(&[0, 1, MAX_AMOUNT, MAX_AMOUNT + 1, any as u32]),
+        0 => raw.amount = random.pick(&[0, 1, AMOUNT_MOST, AMOUNT_MOST + 1, any as u32]),
         1 => raw.named_serial = random.pick(&[0, 1, any as u32]),
         2 => raw.a = random.pick(&[0, 1, MAX_PERIOD + 1, MAX_RATE, MAX_RATE + 1, any as u16]),
         3 => raw.b = random.pick(&[0, 1, 2, 3, 4, past_period, any as u8]),

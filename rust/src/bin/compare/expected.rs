@@ -3,7 +3,9 @@
 
 use crate::call::{Answer, Call, Request};
 use contribution_book::plain::*;
-use contribution_book::proved::{Carried, Checked, ContributionGiven, Posted, StatementGiven};
+use contribution_book::proved::{
+    CarryGiven, CheckGiven, ContributionGiven, PostingGiven, StatementGiven,
+};
 
 pub struct Expected {
     pub answer: Answer,
@@ -37,9 +39,9 @@ fn accept(refusal: u8) -> Given<()> {
 
 fn answer(book: &mut Book, request: &mut Request) -> Given<Answer> {
     Ok(match request {
-        Request::Check => Answer::Checked(Checked {
+        Request::Check => Answer::Checked(CheckGiven {
             entries: book.count() as u16,
-            ..Checked::default()
+            ..CheckGiven::default()
         }),
         Request::Post { entry, output } => {
             Answer::Posted(post(book, entry.bytes(), output.bytes_mut())?)
@@ -65,13 +67,13 @@ fn answer(book: &mut Book, request: &mut Request) -> Given<Answer> {
     })
 }
 
-fn post(book: &mut Book, entry: &[u8], output: &mut [u8]) -> Given<Posted> {
+fn post(book: &mut Book, entry: &[u8], output: &mut [u8]) -> Given<PostingGiven> {
     if entry.len() != RECORD {
         return Err(17);
     }
     let reply = book.post(&parse_record(entry).0);
     accept(reply.refusal)?;
-    Ok(Posted::new(reply, save(book, output)?))
+    Ok(PostingGiven::new(reply, save(book, output)?))
 }
 
 fn carry_over(
@@ -79,7 +81,7 @@ fn carry_over(
     run: &[u8],
     results: &mut [u8],
     output: &mut [u8],
-) -> Given<Carried> {
+) -> Given<CarryGiven> {
     let entries = run.chunks_exact(RECORD);
     if !entries.remainder().is_empty() {
         return Err(17);
@@ -89,7 +91,7 @@ fn carry_over(
     accept(book.carry_over(&entries, &mut written))?;
     let bytes = save(book, output)?;
     results.copy_from_slice(&written);
-    Ok(Carried {
+    Ok(CarryGiven {
         refusal: 0,
         record: 0,
         bytes,

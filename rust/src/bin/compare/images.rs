@@ -3,7 +3,7 @@
 use crate::entries::{self, Pool};
 use crate::history::History;
 use crate::random::Random;
-use contribution_book::plain::{write_record, ENTRIES, LONGEST, RECORD};
+use contribution_book::plain::{write_record, ENTRIES, LONGEST_IMAGE, RECORD};
 
 /// How an image came about.
 #[derive(Clone, Copy, Debug, PartialEq, Eq)]
@@ -62,8 +62,8 @@ fn other_length(random: &mut Random, mut image: Vec<u8>) -> Vec<u8> {
     let length = match random.below(8) {
         0 => 0,
         1 => RECORD - 1,
-        2 => LONGEST + RECORD,
-        3 => LONGEST + more,
+        2 => LONGEST_IMAGE + RECORD,
+        3 => LONGEST_IMAGE + more,
         4 | 5 => image.len() + more,
         _ => random.below(image.len()),
     };

@@ -129,7 +129,7 @@ impl List {
         let length = match self.random.below(8) {
             0 => bytes - 1,
             1 => self.random.below(bytes),
-            2 => LONGEST,
+            2 => LONGEST_IMAGE,
             3 | 4 => bytes + self.random.below(100),
             _ => bytes,
         };

@@ -3,7 +3,7 @@
 use crate::call::{Request, KINDS};
 use crate::expected::Expected;
 use crate::images;
-use contribution_book::plain::{parse_record, ENTRIES, RECORD};
+use contribution_book::plain::{parse_record, ENTRIES, LAST_KIND, RECORD};
 use std::fmt;
 
 /// How often each refusal number that can be given has to be met, and each
@@ -30,8 +30,8 @@ const OF_CALLS: [Possible; KINDS.len()] = [
     |number| matches!(number, 0 | 2 | 3 | 8),
 ];
 
-const ENTRY_KINDS: [&str; 9] = [
-    "none of 1 to 8",
+const ENTRY_KINDS: [&str; LAST_KIND as usize + 1] = [
+    "unknown",
     "contribution",
     "added customer",
     "bill",

@@ -3,9 +3,6 @@ use Rattle.book.specs.Search.{foundOf}
 use Rattle.book.proofs.Search.lookup.Statement.{statement}
 use Rattle.book.proofs.Search.lookup.Tie as tie
 
-place-requires : tie.Need-place-requires
-place-requires c κs = search needs
-
 returns : tie.Need-returns
 unfolding foundOf
 returns c = simp (c .before .if1 .taken, c .place .ensures)
@@ -15,4 +12,4 @@ unfolding foundOf
 returns-2 c = simp (c .if1 .left)
 
 pub lookup-spec : {M : Type 1} → statement M
-lookup-spec = tie.close (tie.spec place-requires returns returns-2)
+lookup-spec = tie.close (tie.spec (λ c κs. search needs) returns returns-2)

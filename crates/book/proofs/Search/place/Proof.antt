@@ -6,15 +6,9 @@ use Rattle.book.proofs.Chain.{link-inside}
 use Rattle.book.proofs.Search.place.Statement.{statement}
 use Rattle.book.proofs.Search.place.Tie as tie
 
-ends-requires : tie.Need-ends-requires
-ends-requires c κs = search needs
-
 returns : tie.Need-returns
 unfolding placeOf
 returns c = simp (sym (c .before .ends .ensures) ∙ c .if1 .taken)
-
-cast-result : tie.Need-cast-result
-cast-result c = search needs
 
 sub-result : tie.Need-sub-result
 sub-result c = omega (arith, link-inside (c .before .before .before .args .self .at) (sym (c .before .before .ends .ensures) ∙ c .before .if1 .left))
@@ -24,4 +18,4 @@ unfolding placeOf
 returns-2 c = simp (sym (c .before .before .ends .ensures) ∙ c .before .if1 .left)
 
 pub place-spec : {M : Type 1} → statement M
-place-spec = tie.close (tie.spec ends-requires returns cast-result sub-result returns-2)
+place-spec = tie.close (tie.spec (λ c κs. search needs) returns (λ c. search needs) sub-result returns-2)

@@ -4,11 +4,8 @@ use Rattle.measures.specs.Cents.{cents}
 use Rattle.measures.proofs.Cents.least.Statement.{statement}
 use Rattle.measures.proofs.Cents.least.Tie as tie
 
-smaller-requires : tie.Need-smaller-requires
-smaller-requires c κs = search needs
-
 returns : tie.Need-returns
 returns c = ap cents (c .smaller .ensures)
 
 pub least-spec : {M : Type 1} → statement M
-least-spec = tie.close (tie.spec smaller-requires returns)
+least-spec = tie.close (tie.spec (λ c κs. search needs) returns)

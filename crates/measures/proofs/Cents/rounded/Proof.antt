@@ -13,12 +13,6 @@ returns : tie.Need-returns
 unfolding rounded
 returns c = rw (c .if1 .taken) (ap cents (sym (div-zero _)))
 
-div-whole : tie.Need-div-whole
-div-whole c = search needs
-
-rem-rest : tie.Need-rem-rest
-rem-rest c = search needs
-
 sub-if2 : tie.Need-sub-if2
 sub-if2 c = omega (arith, mod-lt (c .before .before .before .args .self .0) (above (c .before .before .if1 .left)))
 
@@ -40,4 +34,4 @@ returns-3 c = let a = c .before .before .before .before .args in
     ap cents (sym (down (a .self .0) (a .divisor) (above (c .before .before .before .if1 .left)) (omega arith)))
 
 pub rounded-spec : {M : Type 1} → statement M
-rounded-spec = tie.close (tie.spec returns div-whole rem-rest sub-if2 add-t8 returns-2 returns-3)
+rounded-spec = tie.close (tie.spec returns (λ c. search needs) (λ c. search needs) sub-if2 add-t8 returns-2 returns-3)

@@ -4,11 +4,8 @@ use Rattle.measures.specs.Cents.{cents}
 use Rattle.measures.proofs.Cents.times.Statement.{statement}
 use Rattle.measures.proofs.Cents.times.Tie as tie
 
-product-requires : tie.Need-product-requires
-product-requires c κs = search needs
-
 returns : tie.Need-returns
 returns c = ap cents (c .product .ensures)
 
 pub times-spec : {M : Type 1} → statement M
-times-spec = tie.close (tie.spec product-requires returns)
+times-spec = tie.close (tie.spec (λ c κs. search needs) returns)

@@ -4,9 +4,6 @@ use borrow.Author.Needs.{needs}
 use Rattle.queries.proofs.statements.standing.Statement.{statement}
 use Rattle.queries.proofs.statements.standing.Tie as tie
 
-is-requires : tie.Need-is-requires
-is-requires c κs = search needs
-
 returns : tie.Need-returns
 unfolding standingIn
 returns c = simp (sym (c .before .before .is .ensures) ∙ c .before .if1 .taken)
@@ -16,4 +13,4 @@ unfolding standingIn
 returns-2 c = simp (sym (c .before .is .ensures) ∙ c .if1 .left)
 
 pub standing-spec : {M : Type 1} → statement M
-standing-spec = tie.close (tie.spec is-requires returns returns-2)
+standing-spec = tie.close (tie.spec (λ c κs. search needs) returns returns-2)

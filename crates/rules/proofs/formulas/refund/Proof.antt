@@ -11,29 +11,8 @@ fits a k ha hk =
     let h : a * k ≤ 65535 * 65537 = mul-le-mul {n₁ = a} {m₁ = k} {n₂ = 65535} {m₂ = 65537} (omega arith) (omega arith) in
     omega arith
 
-cast-metres-shared : tie.Need-cast-metres-shared
-cast-metres-shared c = search needs
-
-cast-metres-built : tie.Need-cast-metres-built
-cast-metres-built c = search needs
-
-cast-k : tie.Need-cast-k
-cast-k c = search needs
-
-add-k : tie.Need-add-k
-add-k c = search needs
-
-product-requires : tie.Need-product-requires
-product-requires c κs = search needs
-
 mul-quotient : tie.Need-mul-quotient
 mul-quotient c = record { fits = fits _ _ (search needs) (search needs) }
-
-quotient-requires : tie.Need-quotient-requires
-quotient-requires c κs = search needs
-
-smaller-requires : tie.Need-smaller-requires
-smaller-requires c κs = search needs
 
 returns : tie.Need-returns
 unfolding refundOf
@@ -41,14 +20,5 @@ returns c = simp (c .smaller .ensures, c .before .quotient .ensures, c .before .
 
 pub refund-spec : {M : Type 1} → statement M
 refund-spec =
-    tie.close
-    (tie.spec
-    cast-metres-shared
-    cast-metres-built
-    cast-k
-    add-k
-    product-requires
-    mul-quotient
-    quotient-requires
-    smaller-requires
-    returns)
+    tie.close (tie.spec (λ c. search needs) (λ c. search needs) (λ c. search needs) (λ c. search needs) (λ c κs. search needs) mul-quotient
+    (λ c κs. search needs) (λ c κs. search needs) returns)

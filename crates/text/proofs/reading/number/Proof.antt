@@ -4,8 +4,8 @@ use native.Mathlib.Omega.{arith}
 use borrow.Author.Needs.{needs}
 use denote.Ref.{now}
 use lib.ListN.{length, drop}
-use Rattle.text.specs.Numbers.{numberIn}
-use Rattle.text.proofs.Numbers.{number-ends, number-stops, number-beyond, number-goes-on}
+use Rattle.text.specs.Reading.{numberIn}
+use Rattle.text.proofs.ReadingLaws.{number-ends, number-stops, number-beyond, number-goes-on}
 use Rattle.text.proofs.reading.number.Statement.{statement}
 use Rattle.text.proofs.reading.number.Tie as tie
 
@@ -15,15 +15,6 @@ Inv-loop line from at₀ value₀ at value = (from ≤ at) × (numberIn from (dr
 abbrev μ-loop : tie.MeasureT-loop
 μ-loop line from at₀ value₀ at value = length line - at
 
-loop-holds : tie.Need-loop-holds Inv-loop μ-loop
-loop-holds c = search needs
-
-shared-slice-read-digit : tie.Need-shared-slice-read-digit Inv-loop μ-loop
-shared-slice-read-digit c = search needs
-
-digit-requires : tie.Need-digit-requires Inv-loop μ-loop
-digit-requires c κs = search needs
-
 returns : tie.Need-returns Inv-loop μ-loop
 returns c =
     let l = c .before .before .before .before .loop in
@@ -31,27 +22,12 @@ returns c =
     let d = c .before .digit in
     (l .inv .0, sym (number-stops (now (a .line)) (a .from) (l .value) (l .at) (d .result) (omega arith) (d .ensures .1) (omega arith)) ∙ l .inv .1)
 
-sub-if2 : tie.Need-sub-if2 Inv-loop μ-loop
-sub-if2 c = search needs
-
 returns-2 : tie.Need-returns-2 Inv-loop μ-loop
 returns-2 c =
     let l = c .before .before .before .before .before .loop in
     let a = c .before .before .before .before .before .before .before .args in
     let d = c .before .before .digit in
     (omega arith, sym (number-beyond (now (a .line)) (a .from) (l .value) (l .at) (d .result) (omega arith) (d .ensures .1) (omega arith) (omega arith)) ∙ l .inv .1)
-
-mul-value : tie.Need-mul-value Inv-loop μ-loop
-mul-value c = search needs
-
-add-value : tie.Need-add-value Inv-loop μ-loop
-add-value c = search needs
-
-add-at : tie.Need-add-at Inv-loop μ-loop
-add-at c = search needs
-
-loop-less : tie.Need-loop-less Inv-loop μ-loop
-loop-less c = search needs
 
 loop-again : tie.Need-loop-again Inv-loop μ-loop
 loop-again c =
@@ -68,19 +44,5 @@ returns-3 c =
 
 pub number-spec : {M : Type 1} → statement M
 number-spec =
-    tie.close
-    (tie.spec
-    Inv-loop
-    μ-loop
-    loop-holds
-    shared-slice-read-digit
-    digit-requires
-    returns
-    sub-if2
-    returns-2
-    mul-value
-    add-value
-    add-at
-    loop-less
-    loop-again
-    returns-3)
+    tie.close (tie.spec Inv-loop μ-loop (λ c. search needs) (λ c. search needs) (λ c κs. search needs) returns (λ c. search needs) returns-2
+    (λ c. search needs) (λ c. search needs) (λ c. search needs) (λ c. search needs) loop-again returns-3)

@@ -1,5 +1,5 @@
 use borrow.Author.Needs.{needs}
-use Rattle.entries.specs.Entries.{withOf}
+use Rattle.entries.specs.Data.{withOf}
 use Rattle.entries.proofs.data.Entry.with.Statement.{statement}
 use Rattle.entries.proofs.data.Entry.with.Tie as tie
 

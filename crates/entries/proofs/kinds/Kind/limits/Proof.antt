@@ -3,60 +3,6 @@ use borrow.Author.Needs.{needs}
 use Rattle.entries.proofs.kinds.Kind.limits.Statement.{statement}
 use Rattle.entries.proofs.kinds.Kind.limits.Tie as tie
 
-enum-told : tie.Need-enum-told
-enum-told c = search needs
-
-row-requires : tie.Need-row-requires
-row-requires c κs = search needs
-
-enum-told-2 : tie.Need-enum-told-2
-enum-told-2 c = search needs
-
-row-requires-2 : tie.Need-row-requires-2
-row-requires-2 c κs = search needs
-
-enum-told-3 : tie.Need-enum-told-3
-enum-told-3 c = search needs
-
-row-requires-3 : tie.Need-row-requires-3
-row-requires-3 c κs = search needs
-
-enum-told-4 : tie.Need-enum-told-4
-enum-told-4 c = search needs
-
-row-requires-4 : tie.Need-row-requires-4
-row-requires-4 c κs = search needs
-
-enum-told-5 : tie.Need-enum-told-5
-enum-told-5 c = search needs
-
-row-requires-5 : tie.Need-row-requires-5
-row-requires-5 c κs = search needs
-
-enum-told-6 : tie.Need-enum-told-6
-enum-told-6 c = search needs
-
-row-requires-6 : tie.Need-row-requires-6
-row-requires-6 c κs = search needs
-
-enum-told-7 : tie.Need-enum-told-7
-enum-told-7 c = search needs
-
-row-requires-7 : tie.Need-row-requires-7
-row-requires-7 c κs = search needs
-
-enum-told-8 : tie.Need-enum-told-8
-enum-told-8 c = search needs
-
-row-requires-8 : tie.Need-row-requires-8
-row-requires-8 c κs = search needs
-
-enum-told-9 : tie.Need-enum-told-9
-enum-told-9 c = search needs
-
-row-requires-9 : tie.Need-row-requires-9
-row-requires-9 c κs = search needs
-
 returns : tie.Need-returns
 unfolding limitsOf
 returns c = rw (c .before .enum-told .given .1) (c .row .ensures)
@@ -95,32 +41,7 @@ returns-9 c = rw (c .before .enum-told9 .given .1) (c .row9 .ensures)
 
 pub limits-spec : {M : Type 1} → statement M
 limits-spec =
-    tie.close
-    (tie.spec
-    enum-told
-    row-requires
-    enum-told-2
-    row-requires-2
-    enum-told-3
-    row-requires-3
-    enum-told-4
-    row-requires-4
-    enum-told-5
-    row-requires-5
-    enum-told-6
-    row-requires-6
-    enum-told-7
-    row-requires-7
-    enum-told-8
-    row-requires-8
-    enum-told-9
-    row-requires-9
-    returns
-    returns-2
-    returns-3
-    returns-4
-    returns-5
-    returns-6
-    returns-7
-    returns-8
-    returns-9)
+    tie.close (tie.spec (λ c. search needs) (λ c κs. search needs) (λ c. search needs) (λ c κs. search needs) (λ c. search needs)
+    (λ c κs. search needs) (λ c. search needs) (λ c κs. search needs) (λ c. search needs) (λ c κs. search needs) (λ c. search needs)
+    (λ c κs. search needs) (λ c. search needs) (λ c κs. search needs) (λ c. search needs) (λ c κs. search needs) (λ c. search needs)
+    (λ c κs. search needs) returns returns-2 returns-3 returns-4 returns-5 returns-6 returns-7 returns-8 returns-9)

@@ -2,7 +2,7 @@ use Rattle.entries.specs.Kinds.{kindOf, kinds}
 use Prim.Native.Nat.{ℕ, zero, suc, _+_, _≤_}
 use mathlib.Core.Path.{_≡_, refl, sym}
 use native.Mathlib.Omega.{arith}
-use lib.ListN.{getD, List·getD-eq-default}
+use lib.ListN.{getD, length, List·getD-eq-default}
 use Rattle.entries.specs.declared.kinds.Kind.the-variants.{Unknown}
 use borrow.Author.Needs.{needs}
 use Rattle.entries.proofs.kinds.Kind.of.Statement.{statement}
@@ -12,7 +12,7 @@ climb : {n k : ℕ} → (n ≡ k → ⊥) → k ≤ n → k + 1 ≤ n
 climb ne l = omega arith
 
 -- past the table every number is unknown
-past : (n : ℕ) → (1 ≤ n → 9 ≤ n) → Unknown ≡ getD kinds n Unknown
+past : (n : ℕ) → (1 ≤ n → length kinds ≤ n) → Unknown ≡ getD kinds n Unknown
 unfolding kindOf
 past zero h = refl
 past (suc m) h = sym (List·getD-eq-default kinds Unknown (h (omega arith)))
@@ -56,15 +56,4 @@ returns-9 c = let r = c .match .rest in
     (climb (r .0 .0 .0 .0 .1) (climb (r .0 .0 .0 .0 .0 .1) (climb (r .0 .0 .0 .0 .0 .0 .1) (climb (r .0 .0 .0 .0 .0 .0 .0 .1) h))))))))
 
 pub of-spec : {M : Type 1} → statement M
-of-spec =
-    tie.close
-    (tie.spec
-    returns
-    returns-2
-    returns-3
-    returns-4
-    returns-5
-    returns-6
-    returns-7
-    returns-8
-    returns-9)
+of-spec = tie.close (tie.spec returns returns-2 returns-3 returns-4 returns-5 returns-6 returns-7 returns-8 returns-9)

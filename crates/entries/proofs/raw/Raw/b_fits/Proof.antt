@@ -3,12 +3,6 @@ use borrow.Author.Needs.{needs}
 use Rattle.entries.proofs.raw.Raw.b_fits.Statement.{statement}
 use Rattle.entries.proofs.raw.Raw.b_fits.Tie as tie
 
-either-requires : tie.Need-either-requires
-either-requires c κs = search needs
-
-cast-result : tie.Need-cast-result
-cast-result c = search needs
-
 returns : tie.Need-returns
 unfolding bFits
 returns c = simp (c .either .ensures, c .before .before .before .if1 .taken)
@@ -18,4 +12,4 @@ unfolding bFits
 returns-2 c = simp (c .before .if1 .left)
 
 pub b-fits-spec : {M : Type 1} → statement M
-b-fits-spec = tie.close (tie.spec either-requires cast-result returns returns-2)
+b-fits-spec = tie.close (tie.spec (λ c κs. search needs) (λ c. search needs) returns returns-2)

@@ -1,5 +1,5 @@
 use borrow.Author.Needs.{needs}
-use Rattle.entries.specs.Entries.{entryOf}
+use Rattle.entries.specs.Data.{entryOf}
 use Rattle.entries.proofs.raw.Raw.entry.Statement.{statement}
 use Rattle.entries.proofs.raw.Raw.entry.Tie as tie
 

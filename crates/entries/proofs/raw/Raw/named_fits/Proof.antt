@@ -3,18 +3,6 @@ use borrow.Author.Needs.{needs}
 use Rattle.entries.proofs.raw.Raw.named_fits.Statement.{statement}
 use Rattle.entries.proofs.raw.Raw.named_fits.Tie as tie
 
-cast-within : tie.Need-cast-within
-cast-within c = search needs
-
-within-requires : tie.Need-within-requires
-within-requires c κs = search needs
-
-both-requires : tie.Need-both-requires
-both-requires c κs = search needs
-
-both-requires-2 : tie.Need-both-requires-2
-both-requires-2 c κs = search needs
-
 returns : tie.Need-returns
 unfolding namedFits
 returns c = simp (c .both .ensures, c .before .before .within .ensures, c .before .before .before .before .if1 .taken)
@@ -24,6 +12,4 @@ unfolding namedFits
 returns-2 c = simp (c .both2 .ensures, c .before .before .before .if1 .left)
 
 pub named-fits-spec : {M : Type 1} → statement M
-named-fits-spec =
-    tie.close
-    (tie.spec cast-within within-requires both-requires both-requires-2 returns returns-2)
+named-fits-spec = tie.close (tie.spec (λ c. search needs) (λ c κs. search needs) (λ c κs. search needs) (λ c κs. search needs) returns returns-2)

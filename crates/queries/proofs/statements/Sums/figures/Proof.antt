@@ -1,14 +1,11 @@
-use Rattle.queries.specs.Walk.{figuresOf}
+use Rattle.queries.specs.Walk.{statementFiguresOf}
 use borrow.Author.Needs.{needs}
 use Rattle.queries.proofs.statements.Sums.figures.Statement.{statement}
 use Rattle.queries.proofs.statements.Sums.figures.Tie as tie
 
-cast-complete : tie.Need-cast-complete
-cast-complete c = search needs
-
 returns : tie.Need-returns
-unfolding figuresOf
+unfolding statementFiguresOf
 returns c = search needs
 
 pub figures-spec : {M : Type 1} → statement M
-figures-spec = tie.close (tie.spec cast-complete returns)
+figures-spec = tie.close (tie.spec (λ c. search needs) returns)

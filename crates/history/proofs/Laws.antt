@@ -1,0 +1,51 @@
+-- The laws of every history that offers give.
+use Prim.Native.Nat.{ℕ, zero, suc}
+use mathlib.Core.Path.{_≡_, refl}
+use mathlib.Core.List.{List, [], _∷_}
+use native.Mathlib.Omega.{arith}
+use Rattle.entries.specs.declared.raw.Raw.{Raw}
+use Rattle.history.specs.History.{History, judge, joined, offer, offers}
+use Rattle.history.specs.Laws.{Valid, empty, joins, Lawful, Bounded, Laws}
+use Rattle.history.proofs.Accept.{fits}
+use Rattle.history.proofs.Names.{contributed, in-period, once}
+use Rattle.history.proofs.Conserve.{conserve, divide, refunds-all}
+use Rattle.history.proofs.Bound.{bounded, added-small}
+
+lawful : (h : History) → Valid h → Lawful h
+lawful h v =
+    record {
+      conserved = λ a. conserve v a;
+      divided = λ e m c. divide v e m c .0;
+      refunds = refunds-all v;
+      counted = λ e m c. omega (arith, divide v e m c);
+      contributed = contributed v;
+      in-period = λ c e m n k p. omega (arith, in-period v c e m n k p);
+      once = once v;
+    }
+
+within : (h : History) → Valid h → Bounded h
+within h v =
+    record {
+      room = fits v;
+      arrears = λ a. omega (arith, fits v, bounded v a .arrears);
+      credit = λ a. omega (arith, fits v, bounded v a .credit);
+      deposit = λ a. omega (arith, bounded v a .deposit);
+      added = λ e. omega (arith, fits v, added-small h e);
+    }
+
+-- what holds of a history when an entry is offered
+pub offered : (P : History → Type 0) (h : History) (r : Raw) → (judge h r ≡ 0 → P (r ∷ h)) → P h → P (offer h r)
+unfolding offer
+offered P h r joined-holds holds = go (judge h r) refl
+  where
+    go : (n : ℕ) → judge h r ≡ n → P (joined n r h)
+    go zero j = joined-holds j
+    go (suc n) j = holds
+
+-- what offers give, from a valid history on
+pub valid-offers : {h : History} → Valid h → (rs : List Raw) → Valid (offers h rs)
+valid-offers v [] = v
+valid-offers {h} v (r ∷ rs) = valid-offers (offered Valid h r (joins v) v) rs
+
+pub laws : Laws
+laws = record { valid = λ rs. valid-offers empty rs; lawful = lawful; bounded = within }

@@ -1,6 +1,0 @@
--- The longest image is that of a full book.
-use mathlib.Core.Path.{refl}
-use Rattle.image.specs.Longest.{LongestIsFull}
-
-pub longest-is-full : LongestIsFull
-longest-is-full = refl
