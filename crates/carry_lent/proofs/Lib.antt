@@ -1,1 +1,1 @@
-pub mod Lender
+pub mod Lent

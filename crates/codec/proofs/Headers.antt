@@ -32,7 +32,7 @@ unfolding headerOf
 marks n rest = refl
 
 -- a header and its records pass the checks
-pub header-passes : (n : ℕ) (rest : List ℕ) → n ≤ 1024 → length (headerOf n ++ rest) ≡ recordBytes * (n + 1) →
+pub header-passes : (n : ℕ) (rest : List ℕ) → recordBytes * (n + 1) ≤ longestImage → length (headerOf n ++ rest) ≡ recordBytes * (n + 1) →
     checkOf (headerOf n ++ rest) ≡ check.Passed
 unfolding checkOf refuseIf
 header-passes n rest h len =

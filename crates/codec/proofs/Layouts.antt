@@ -21,7 +21,14 @@ unpack-pack [] [] rest h = refl
 unpack-pack [] (v ∷ vs) rest h = absurd h
 unpack-pack (w ∷ ws) [] rest h = absurd h
 unpack-pack (w ∷ ws) (v ∷ vs) rest h =
-    rw (append-assoc (toBytes w v) (pack ws vs) rest, take-at (toBytes w v) (pack ws vs ++ rest) w (length-to-bytes w v), drop-at (toBytes w v) (pack ws vs ++ rest) w (length-to-bytes w v), from-to-bytes w v (h .0), unpack-pack ws vs rest (h .1))
+    rw (
+      append-assoc (toBytes w v) (pack ws vs) rest,
+      take-at (toBytes w v) (pack ws vs ++ rest) w (length-to-bytes w v),
+      drop-at (toBytes w v)
+          (pack ws vs ++ rest) w (length-to-bytes w v),
+      from-to-bytes w v (h .0),
+      unpack-pack ws vs rest (h .1),
+    )
 
 pub pack-unpack : (ws l : List ℕ) → totalWidth ws ≤ length l → Bytes l → pack ws (unpack ws l) ≡ take (totalWidth ws) l
 pack-unpack [] l k h = refl

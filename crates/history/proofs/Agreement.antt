@@ -66,7 +66,8 @@ module _ {b : Book} {h : History} (w : Agrees b h) (v : Valid h) (r : Raw) where
   pub refusal-same : checkNumber (checks.checkRows check.Passed table) ≡ judge h r
   unfolding judge
   refusal-same =
-      check-same h r k (b .count) (lastOf (b .last) (r .node)) (rows r k (accountAt b (r .account)) (namesOf k) (lookupOf b r)) (targetEntry (named h r)) (targetFate h (named h r)) (balance h (r .account))
+      check-same h r k (b .count) (lastOf (b .last) (r .node)) (rows r k (accountAt b (r .account)) (namesOf k) (lookupOf b r))
+      (targetEntry (named h r)) (targetFate h (named h r)) (balance h (r .account))
       (w .counted)
       (λ t. last-same w (fits v) r t)
       (λ t. state-same w (fits v) r t)

@@ -157,11 +157,23 @@ module _ {h : History} (v : Valid h) (r : Raw) (j : judge h r ≡ 0) where
       let b = balance h (r .account) in
       let free = or-left (sameOf k kind.Deposit && ltb 0 (b .deposit)) (sameOf k kind.DepositReturn && eqb (b .deposit) 0) (accepts h r j .deposit) in
       let e = targetEntry (named h r) in
-      omega (arith, move-even (moveBy h r b) b, alone-even r e (targetFate h (named h r)) b (kindOf (e .kind)) k n (unheld (sameOf k kind.Deposit) (b .deposit) free), rw own at (plain-sum n (r .account) brings), rw own at (plain-sum n (r .account) holds))
+      omega (
+        arith,
+        move-even (moveBy h r b) b,
+        alone-even r e (targetFate h (named h r)) b (kindOf (e .kind)) k n (unheld (sameOf k kind.Deposit) (b .deposit) free),
+        rw own at (plain-sum n (r .account) brings),
+        rw own at (plain-sum n (r .account) holds),
+      )
   grown (upon n i e q s) =
       let b = balance h (r .account) in
       rw (named-at h r n i e q)
-      (omega (arith, move-even (moveOf k (kindOf (e .kind)) r b e (fate h e)) b, upon-even r e (fate h e) b (postedFate r) k (kindOf (e .kind)) n s, rw own at (named-sum n i e q (r .account) brings), rw own at (named-sum n i e q (r .account) holds)))
+      (omega (
+        arith,
+        move-even (moveOf k (kindOf (e .kind)) r b e (fate h e)) b,
+        upon-even r e (fate h e) b (postedFate r) k (kindOf (e .kind)) n s,
+        rw own at (named-sum n i e q (r .account) brings),
+        rw own at (named-sum n i e q (r .account) holds),
+      ))
 
   own-even : Even h (r .account) → Even (r ∷ h) (r .account)
   unfolding addedUp balance amounts

@@ -17,8 +17,7 @@ use Rattle.entries.specs.declared.data.Entry.{Entry}
 use Rattle.entries.proofs.Ranges.{both-true, Ranged}
 use Rattle.entries.proofs.KindsLaws.{number-again}
 use Rattle.book.specs.declared.Book.{Book}
-use Rattle.saves.specs.Raws.{rawWith, rawOf}
-use Rattle.saves.specs.Saves.{entryRecord, entryCount, bytesOf, imageOf, refusedSave, acceptedSave, saveOf, savedIn}
+use Rattle.saves.specs.Saves.{rawWith, rawOf, entryRecord, entryCount, bytesOf, imageOf, refusedSave, acceptedSave, saveOf, savedIn}
 use Rattle.history.specs.History.{History, Fate, judge}
 use Rattle.history.specs.Laws.{Valid, empty, joins}
 use Rattle.history.specs.Images.{newestOf, recordsBy, imageIn, bytesIn, shortIn, roomIn, savedBy}

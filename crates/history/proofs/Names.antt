@@ -113,7 +113,8 @@ pick P true p q = p
 pick P false p q = q
 
 -- what an older fate has, and each of the three changes, a fate has
-pub fate-cases : (P : Fate → Type 0) (t : Bool) (k : Kind) (c e : Raw) (f : Fate) → P f → P (fateAfter kind.AddedCustomer c e f) → P (fateAfter kind.Expiry c e f) → P (fateAfter kind.Correction c e f) → P (cond t (fateAfter k c e f) f)
+pub fate-cases : (P : Fate → Type 0) (t : Bool) (k : Kind) (c e : Raw) (f : Fate) → P f → P (fateAfter kind.AddedCustomer c e f) →
+    P (fateAfter kind.Expiry c e f) → P (fateAfter kind.Correction c e f) → P (cond t (fateAfter k c e f) f)
 fate-cases P t k c e f same added expired corrected =
     pick P t (pick P (sameOf k kind.AddedCustomer) added (pick P (sameOf k kind.Expiry) expired (pick P (sameOf k kind.Correction) corrected same))) same
 

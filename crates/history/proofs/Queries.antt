@@ -127,14 +127,25 @@ module _ {b : Book} {h : History} (w : Kept b h) where
   held-fits : (a : ℕ) → min (totalOf chains.heldOf (entriesIn (keptWalk h h a))) most ≡ total heldAmount h (entriesOf h a)
   held-fits a =
       rw (reads-total chains.heldOf heldAmount h (held-read h) (chain-reads h h a))
-      (min-eq-left (omega (arith, fits (w .valid), total-small heldAmount h a (λ e s. some-small (sameOf (kindOf (e .kind)) kind.Contribution) (fate h e .held) (omega (arith, held-small h e, s .amount))) (w .valid))))
+      (min-eq-left (omega (
+        arith,
+        fits (w .valid),
+        total-small heldAmount h a (λ e s. some-small (sameOf (kindOf (e .kind)) kind.Contribution) (fate h e .held)
+            (omega (arith, held-small h e, s .amount))) (w .valid),
+      )))
 
   standing-fits : (bill : Bool) (a n : ℕ) →
       let l = correctable bill in min (totalOf (standingOf l) (take n (entriesIn (keptWalk h h a)))) most ≡ total (standingAmount l) h (take n (entriesOf h a))
   standing-fits bill a n =
       let l = correctable bill in
       rw (reads-total (standingOf l) (standingAmount l) h (standing-read h bill) (reads-taken n (chain-reads h h a)))
-      (min-eq-left (omega (arith, fits (w .valid), taken-small (standingAmount l) h n (entriesOf h a), total-small (standingAmount l) h a (λ e s. some-small (sameOf (kindOf (e .kind)) l) (fate h e .standing) (standing-small (w .valid) e s)) (w .valid))))
+      (min-eq-left (omega (
+        arith,
+        fits (w .valid),
+        taken-small (standingAmount l) h n (entriesOf h a),
+        total-small (standingAmount l) h a (λ e s. some-small (sameOf (kindOf (e .kind)) l) (fate h e .standing) (standing-small (w .valid) e s))
+            (w .valid),
+      )))
 
   given-same : (a n : ℕ) → 1 ≤ a → a ≤ accounts → givenOf (accountAt b a) (chainAt b a) n ≡ statementBy 0 h a n
   unfolding givenOf
@@ -168,7 +179,8 @@ module _ {b : Book} {h : History} (w : Kept b h) where
   contribution-same a node serial = go (between node 1 2) (between a 1 accounts) refl
     where
       go : (t u : Bool) → between a 1 accounts ≡ u →
-          decidedOf (refuseIf (refuseIf check.Passed (not t) no.UnknownNode) (not u) no.UnknownAccount) (λ n. contributionReplyOf (contribution.Refused n)) (knownOf (soughtIn (carries node serial) (walkAt b a))) ≡
+          decidedOf (refuseIf (refuseIf check.Passed (not t) no.UnknownNode) (not u) no.UnknownAccount)
+          (λ n. contributionReplyOf (contribution.Refused n)) (knownOf (soughtIn (carries node serial) (walkAt b a))) ≡
           contributionBy
           (cond (not t) 2 (cond (not u) 3 (cond (not (sameOf (kindOf (targetEntry (find h (pointerTo a node serial)) .kind)) kind.Contribution)) 8 0)))
           h (targetEntry (find h (pointerTo a node serial)))

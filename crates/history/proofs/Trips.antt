@@ -96,7 +96,7 @@ unfolding imageIn
 image-loads {h} v t =
     let n = fits v in
     let rest : List ℕ = encodeAll (recordsBy h) in
-    let passes = header-passes (length h) rest n (length-image h) in
+    let passes = header-passes (length h) rest (omega arith) (length-image h) in
     let count : countIn (headerOf (length h) ++ rest) ≡ length h = count-header (length h) rest (omega arith) in
     let body : drop recordBytes (headerOf (length h) ++ rest) ≡ rest = drop-at (headerOf (length h)) rest recordBytes (length-header (length h)) in
     let all : decodeAll (length h) rest ≡ recordsBy h = rw (length-records h) at (decode-encode-all (recordsBy h) (in-range h t n)) in

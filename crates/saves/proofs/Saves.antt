@@ -28,7 +28,13 @@ length-records b n h = length-map (take n (b .entries)) entryRecord ∙ length-t
 pub records-step : (b : Book) (i : ℕ) (d : Entry) → i < length (b .entries) →
     encodeAll (recordsOf b (i + 1)) ≡ encodeAll (recordsOf b i) ++ encodeRecord (entryRecord (getD (b .entries) i d))
 records-step b i d h =
-    rw (add-one i, take-suc (b .entries) i d h, map-append entryRecord (take i (b .entries)) (getD (b .entries) i d ∷ []), encode-append (recordsOf b i) (entryRecord (getD (b .entries) i d) ∷ []), append-nil (encodeRecord (entryRecord (getD (b .entries) i d))))
+    rw (
+      add-one i,
+      take-suc (b .entries) i d h,
+      map-append entryRecord (take i (b .entries)) (getD (b .entries) i d ∷ []),
+      encode-append (recordsOf b i) (entryRecord (getD (b .entries) i d) ∷ []),
+      append-nil (encodeRecord (entryRecord (getD (b .entries) i d))),
+    )
 
 -- the header, as it is written in p, and the first i records
 abbrev pub begunOf : Book → List ℕ → ℕ → List ℕ
@@ -67,7 +73,13 @@ save-step b p m after bytes i at next d h room k e put held =
 pub length-image : (b : Book) → length (b .entries) ≡ entriesMost → length (imageOf b) ≡ bytesOf b
 unfolding imageOf
 length-image b h =
-    omega (arith, length-append (headerOf (entryCount b)) (encodeAll (recordsOf b (entryCount b))), length-header (entryCount b), length-encodeAll (recordsOf b (entryCount b)), length-records b (entryCount b) (omega arith))
+    omega (
+      arith,
+      length-append (headerOf (entryCount b)) (encodeAll (recordsOf b (entryCount b))),
+      length-header (entryCount b),
+      length-encodeAll (recordsOf b (entryCount b)),
+      length-records b (entryCount b) (omega arith),
+    )
 
 -- there is no room
 pub save-refused : (b : Book) (l : List ℕ) → length l < bytesOf b →
@@ -85,8 +97,11 @@ save-done b l p m n next at k e h len put held =
     let first = header-put l p n next (omega arith) len put in
     let header = subst (λ (i : ℕ). Holds (headerOf n) l p i) (first .1) (first .0) in
     let all = holds-then (headerOf n) (encodeAll (recordsOf b n)) l p m recordBytes at header held in
-    let end : at ≡ bytesOf b = holds-length (begunOf b p n) p m at held ∙ length-begun b p n (omega arith) (omega arith) ∙ ap (λ (i : ℕ). recordBytes * (i + 1)) e in
-    (rw (big, e), rw big (holds-all (headerOf n ++ encodeAll (recordsOf b n)) l m at all ∙ ap (λ (i : ℕ). (headerOf i ++ encodeAll (recordsOf b i)) ++ drop at l) e ∙ ap (λ (i : ℕ). imageOf b ++ drop i l) end))
+    let end : at ≡ bytesOf b = holds-length (begunOf b p n) p m at held ∙ length-begun b p n (omega arith) (omega arith) ∙ ap (λ (i : ℕ). recordBytes * (i + 1)) e in (
+      rw (big, e),
+      rw big (holds-all (headerOf n ++ encodeAll (recordsOf b n)) l m at all ∙
+          ap (λ (i : ℕ). (headerOf i ++ encodeAll (recordsOf b i)) ++ drop at l) e ∙ ap (λ (i : ℕ). imageOf b ++ drop i l) end),
+    )
 
 -- WHAT A SAVE'S ANSWER TELLS
 

@@ -1,2 +1,1 @@
-pub mod Raws
 pub mod Saves

@@ -16,8 +16,7 @@ ghost use Prim.Native.Nat.{_+_, _≤_, min};
 ghost use Rattle.measures.specs.Cents.{cents};
 ghost use Rattle.entries.specs.declared.kinds.Kind.the-variants as kind;
 ghost use Rattle.book.specs.Fresh.{entriesMost};
-ghost use Rattle.saves.specs.Raws.{narrow, rawFrom, rawOf};
-ghost use Rattle.saves.specs.Saves.{saveReplyOf, saveOf, savedIn};
+ghost use Rattle.saves.specs.Saves.{narrow, rawFrom, rawOf, saveReplyOf, saveOf, savedIn};
 
 pub enum SaveAnswer {
     Refused(Refusal),

@@ -12,7 +12,10 @@ returns-2 : tie.Need-returns-2
 returns-2 c = no-room (now (c .before .before .before .before .args .text)) (now (c .before .before .before .before .args .buf)) (c .before .before .before .before .args .at) (omega arith)
 
 returns-3 : tie.Need-returns-3
-returns-3 c = rw (c .before .before .copy .ensures .0) (copied (now (c .before .before .before .before .before .before .before .before .args .text)) (now (c .before .before .before .before .before .before .before .before .args .buf)) (c .before .before .copy .last .1 .0) (c .before .before .before .before .before .before .before .before .args .at) (omega arith) (c .before .before .copy .ensures .1))
+returns-3 c =
+    let a = c .before .before .before .before .before .before .before .before .args in
+    rw (c .before .before .copy .ensures .0)
+    (copied (now (a .text)) (now (a .buf)) (c .before .before .copy .last .1 .0) (a .at) (omega arith) (c .before .before .copy .ensures .1))
 
 pub put-spec : {M : Type 1} → statement M
 put-spec =

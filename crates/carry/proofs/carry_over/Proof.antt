@@ -1,6 +1,6 @@
 -- `carry::carry_over` meets its contract: a walk of its MIR, by hand, with a branch, a loop and two calls in the loop's turn.
 -- Both borrows are opened once, before the loop, and closed once, after it. Between the two the entries are a share of a row, and the results a whole row.
--- What a turn knows of the lists is `Fold.antt`'s `Turn`, which is the loop's index: the invariant `I t` is a list of cells at the values of t.
+-- What a turn knows of the lists is `Carry.antt`'s `Turn`, which is the loop's index: the invariant `I t` is a list of cells at the values of t.
 use mathlib.Core.Path.{_≡_, refl, sym, _∙_, ap, subst}
 use Prim.Native.Nat.{ℕ, _<_, _≤_, _^_, _*_, _+_, _-_}
 use native.Mathlib.Omega.{arith}
@@ -63,7 +63,7 @@ use Rattle.carry.specs.declared.Carried.{Carried}
 use Rattle.carry.specs.declared.CarryAnswer.{CarryAnswer}
 use Rattle.carry.specs.declared.CarryAnswer.the-variants.{Refused, Accepted}
 use Rattle.carry.proofs.Branch.{branch-or}
-use Rattle.carry.proofs.Fold.{lowB, noRaw, Turn, start, next, laws}
+use Rattle.carry.proofs.Carry.{lowB, noRaw, Turn, start, next, laws}
 use Rattle.entries.proofs.raw.Raw as R
 use Rattle.entries.proofs.raw.Raw.Laws as R′
 use Rattle.entries.proofs.refusals.Refusal as F
@@ -93,6 +93,10 @@ use Rattle.carry.proofs.carry_over.Code.Mir as body
 -- MACHINE VALUES, AND THE LOCALS' TYPES
 abbrev lowR : Raw → Val
 lowR = LL.val R.the-type R′.the-laws
+
+-- the bytes of an entry in memory
+abbrev rawBytes : ℕ
+rawBytes = 24
 
 abbrev lowF : Refusal → Val
 lowF = EL.val F.the-type F′.the-laws
@@ -129,7 +133,18 @@ stayed = (stay-none (λ _. B.the-row) yes, (stay-none-slice (0 ∷ []) tt (plain
 
 -- the function, with its locals' types by the names that the walk has for them
 abbrev written : Fn
-written = record { lifetimes = 2; outlives = []; params = 3; locals = local K′.mir valueLocal ∷ local B′.mir valueLocal ∷ local shr valueLocal ∷ local mutable valueLocal ∷ local word valueLocal ∷ local P′.mir valueLocal ∷ local word valueLocal ∷ local word valueLocal ∷ local tyBool valueLocal ∷ local F′.mir valueLocal ∷ local CA′.mir valueLocal ∷ local word valueLocal ∷ local tyBool valueLocal ∷ local tyPtr valueLocal ∷ local R′.mir valueLocal ∷ local byte valueLocal ∷ local tyPtr valueLocal ∷ local CA′.mir valueLocal ∷ []; body = body.t-1 }
+written =
+    record {
+      lifetimes = 2;
+      outlives = [];
+      params = 3;
+      locals =
+          local K′.mir valueLocal ∷ local B′.mir valueLocal ∷ local shr valueLocal ∷ local mutable valueLocal ∷ local word valueLocal ∷
+          local P′.mir valueLocal ∷ local word valueLocal ∷ local word valueLocal ∷ local tyBool valueLocal ∷ local F′.mir valueLocal ∷
+          local CA′.mir valueLocal ∷ local word valueLocal ∷ local tyBool valueLocal ∷ local tyPtr valueLocal ∷ local R′.mir valueLocal ∷
+          local byte valueLocal ∷ local tyPtr valueLocal ∷ local CA′.mir valueLocal ∷ [];
+      body = body.t-1;
+    }
 
 is-written : written ≡ code.function
 is-written = refl
@@ -215,7 +230,8 @@ module _ {M : Type 1} (𝓤 : URA M) (H : Heap 𝓤) (A : Atoms 𝓤) (W : Given
   exits-short : ltb m n ≡ true → ent 𝓤 (⋆ 𝓤 H A (Tokens ∷ ‵ Passed ∷ [])) (Post (lowK short))
   exits-short e =
       qed W (Tokens ∷ ‵ Passed ∷ []) ∵
-      suffices ! _ (ends-at 𝓤 H A carry-over.ended stayed (carry-over.clauses 𝓤 H A mem run) W bound (lowK short) short (tt, (tt, (rs, tt))) (tt, (tt, (refl, tt)))) $ says ! (laws s₀ xs rs .refused e) $
+      suffices ! _ (ends-at 𝓤 H A carry-over.ended stayed (carry-over.clauses 𝓤 H A mem run) W bound (lowK short) short (tt, (tt, (rs, tt)))
+      (tt, (tt, (refl, tt)))) $ says ! (laws s₀ xs rs .refused e) $
       frame ! $ frame ! $ owned ! K.the-row (Is K.the-row) (LL.makes K.the-type K′.the-plain 𝓤 H A) short (lowK short ∷ []) (okK s₀ (Refused ResultsShort) ok₀ okRefused) $ done !
 
   -- and after the last turn
@@ -233,7 +249,8 @@ module _ {M : Type 1} (𝓤 : URA M) (H : Heap 𝓤) (A : Atoms 𝓤) (W : Given
       suffices ! _ (ends-at 𝓤 H A carry-over.ended stayed (carry-over.clauses 𝓤 H A mem run) W bound (lowK (full (t .book))) (full (t .book)) (tt, (tt, (t .zs, tt))) (tt, (tt, (t .len, tt)))) $
       says ! (laws s₀ xs rs .accepted t fit ge) $
       -- what results owns, at zs
-      move ! (1 ∷ 2 ∷ []) $ fjoin ! $ pureI ! (at-slice u8 (record { ptr = (b′, o′); name = γ′; now = t .zs }) (sliceVal (b′, o′) m ∷ [])) (tt, (tt, tt)) (ap (λ (k : ℕ). sliceVal (b′, o′) k ∷ []) (sym (t .len)), subst (Room u8) (sym (t .len)) gm) $ fjoin ! $
+      move ! (1 ∷ 2 ∷ []) $ fjoin ! $ pureI ! (at-slice u8 (record { ptr = (b′, o′); name = γ′; now = t .zs }) (sliceVal (b′, o′) m ∷ [])) (tt, (tt, tt))
+      (ap (λ (k : ℕ). sliceVal (b′, o′) k ∷ []) (sym (t .len)), subst (Room u8) (sym (t .len)) gm) $ fjoin ! $
       nothing ! $ move ! (1 ∷ 0 ∷ []) $ fjoin ! $
       -- what entries owns
       move ! (4 ∷ 3 ∷ []) $ fjoin ! $ pureI ! (at-slice R.the-row (args .1 .0) (sliceVal (b, o) n ∷ [])) (tt, (tt, tt)) (refl, gn) $ fjoin ! $ fjoin ! $
@@ -252,7 +269,9 @@ module _ {M : Type 1} (𝓤 : URA M) (H : Heap 𝓤) (A : Atoms 𝓤) (W : Given
     Λ = 𝓣 .Λ
 
     abbrev En : Env 𝓤 H
-    En = (K′.mir, l₀) ∷ (B′.mir, l₁) ∷ (shr, l₂) ∷ (mutable, l₃) ∷ (word, l₄) ∷ (P′.mir, l₅) ∷ (word, l₆) ∷ (word, l₇) ∷ (tyBool, l₈) ∷ (F′.mir, l₉) ∷ (CA′.mir, l₁₀) ∷ (word, l₁₁) ∷ (tyBool, l₁₂) ∷ (tyPtr, l₁₃) ∷ (R′.mir, l₁₄) ∷ (byte, l₁₅) ∷ (tyPtr, l₁₆) ∷ (CA′.mir, l₁₇) ∷ []
+    En =
+        (K′.mir, l₀) ∷ (B′.mir, l₁) ∷ (shr, l₂) ∷ (mutable, l₃) ∷ (word, l₄) ∷ (P′.mir, l₅) ∷ (word, l₆) ∷ (word, l₇) ∷ (tyBool, l₈) ∷
+        (F′.mir, l₉) ∷ (CA′.mir, l₁₀) ∷ (word, l₁₁) ∷ (tyBool, l₁₂) ∷ (tyPtr, l₁₃) ∷ (R′.mir, l₁₄) ∷ (byte, l₁₅) ∷ (tyPtr, l₁₆) ∷ (CA′.mir, l₁₇) ∷ []
 
     -- the invariant: the two open borrows, then the locals, from the last to the first
     abbrev I : Turn s₀ xs rs → List (Item 𝓤)
@@ -286,26 +305,31 @@ module _ {M : Type 1} (𝓤 : URA M) (H : Heap 𝓤) (A : Atoms 𝓤) (W : Given
         -- the place of entries[i], and the entry, copied
         assigns ! (bin ! (load ! (from ! (stop !)) (look ! 34 refl)) (lit ! tt) (record { fits = far })) (from ! (stop !)) (store ! 20 refl (tt, record { fits = far })) $
         assigns ! (bin ! (load ! (from ! (fld ! refl (stop !))) (look-in ! 38 (sub ! 0 refl (whole !)))) (load ! (from ! (stop !)) (look ! 20 refl)) tt) (from ! (stop !)) (init ! 16 refl (tt, tt)) $
-        rewrite ! 16 (λ (p : ℕ). ‵ (fat fullShare tyPtr l₁₃ 0 (vptr b p))) (sym (place-is 24 o (t .i))) refl $
+        rewrite ! 16 (λ (p : ℕ). ‵ (fat fullShare tyPtr l₁₃ 0 (vptr b p))) (sym (place-is rawBytes o (t .i))) refl $
         elem-out ! R.the-row (Is R.the-row) (shows 𝓤 H A R.the-row) (LL.vals R.the-type R′.the-laws) (LL.tells R.the-type R′.the-laws) z xs (t .i) noRaw b o lt (λ gx.
-        assigns ! (of-opd ! (load ! (from ! (hop ! (look ! 18 refl) (stop !))) (look-raw ! 0 refl))) (from ! (stop !)) (init ! 16 refl (LL.lawful R.the-type R′.the-laws 𝓤 H A W .typed x (lowR x ∷ []) gx .0)) $
+        assigns ! (of-opd ! (load ! (from ! (hop ! (look ! 18 refl) (stop !))) (look-raw ! 0 refl))) (from ! (stop !))
+        (init ! 16 refl (LL.lawful R.the-type R′.the-laws 𝓤 H A W .typed x (lowR x ∷ []) gx .0)) $
         elem-back ! R.the-row z xs (t .i) noRaw (lowR x ∷ []) b o lt $
         -- the posting: what the book and the entry own is made of plain facts
         owned ! R.the-row (Is R.the-row) (LL.makes R.the-type R′.the-plain 𝓤 H A) x (lowR x ∷ []) gx $
         owned ! B.the-row (Is B.the-row) (LL.makes B.the-type B′.the-plain 𝓤 H A) (t .book) (lowB (t .book) ∷ []) (t .ok) $
         use2 W (raw (PostC 𝓤 H A W mem run .pre (to 𝓤 H A W mem run (t .book) x))) (goes-post 𝓤 H A W mem run (t .book) x) $
-        calls-at ! (fmOf 𝓤 H (W .laws) 𝓣) (PostC 𝓤 H A W mem run) known (to 𝓤 H A W mem run (t .book) x) (and-then ! (load ! (from ! (stop !)) (look ! 41 refl)) (and-then ! (load ! (from ! (stop !)) (look ! 15 refl)) (no-more !))) (λ u.
+        calls-at ! (fmOf 𝓤 H (W .laws) 𝓣) (PostC 𝓤 H A W mem run) known (to 𝓤 H A W mem run (t .book) x)
+        (and-then ! (load ! (from ! (stop !)) (look ! 41 refl)) (and-then ! (load ! (from ! (stop !)) (look ! 15 refl)) (no-more !))) (λ u.
         use1 W (later (some (λ (r : Posted). (‵ ftrue ⊛ ‵ (P.the-row .own r (u ∷ []))) ⊛ raw (ensured 𝓤 H A post.ended (post.clauses 𝓤 H A mem run) tt (t .book, (x, tt)) tt r)))) (id⊢ 𝓤 _) $ await ! tt $ pick ! (λ r.
-        split ! $ move ! (1 ∷ []) $ use1 W (raw (fact 𝓤 (postedReply r ≡ postOf (t .book) x))) (said-of 𝓤 H A W mem run (t .book) x r) $ heard ! (postedReply r ≡ postOf (t .book) x) (λ er. split ! $ drop ! $
+        split ! $ move ! (1 ∷ []) $ use1 W (raw (fact 𝓤 (postedReply r ≡ postOf (t .book) x))) (said-of 𝓤 H A W mem run (t .book) x r) $
+        heard ! (postedReply r ≡ postOf (t .book) x) (λ er. split ! $ drop ! $
         facts ! P.the-row (Is P.the-row) (shows 𝓤 H A P.the-row) r (u ∷ []) (λ is.
         land ! (from ! (stop !)) (init ! 32 refl (LL.lawful P.the-type P′.the-laws 𝓤 H A W .typed r (u ∷ []) is .0)) $
         rewrite ! 32 (λ (v : Val). ‵ (fat fullShare P′.mir l₅ 0 v)) (ap only (LL.tells P.the-type P′.the-laws r (u ∷ []) is)) refl $
         -- the answer's refusal number
         owned ! N.the-row (Is N.the-row) (EL.makes N.the-type N′.the-plain 𝓤 H A) (r .answer) (lowN (r .answer) ∷ []) (answered r u is) $
         use1 W (raw (NumberC 𝓤 H A W mem run .pre (to-number 𝓤 H A W mem run (r .answer)))) (goes-number 𝓤 H A W mem run (r .answer)) $
-        calls-at ! (fmOf 𝓤 H (W .laws) 𝓣) (NumberC 𝓤 H A W mem run) known-number (to-number 𝓤 H A W mem run (r .answer)) (and-then ! (load ! (from ! (fld ! refl (stop !))) (look-in ! 33 (sub ! 1 refl (whole !)))) (no-more !)) (λ v.
+        calls-at ! (fmOf 𝓤 H (W .laws) 𝓣) (NumberC 𝓤 H A W mem run) known-number (to-number 𝓤 H A W mem run (r .answer))
+        (and-then ! (load ! (from ! (fld ! refl (stop !))) (look-in ! 33 (sub ! 1 refl (whole !)))) (no-more !)) (λ v.
         use1 W (later (some (λ (k : ℕ). (‵ ftrue ⊛ ‵ (u8 .own k (v ∷ []))) ⊛ raw (ensured 𝓤 H A number.ended (number.clauses 𝓤 H A mem run) tt (r .answer, tt) tt k)))) (id⊢ 𝓤 _) $ await ! tt $ pick ! (λ k.
-        split ! $ move ! (1 ∷ []) $ use1 W (raw (fact 𝓤 (k ≡ postingReplyOf (r .answer) .refusal))) (number-of 𝓤 H A W mem run (r .answer) k) $ heard ! (k ≡ postingReplyOf (r .answer) .refusal) (λ ek. split ! $ drop ! $
+        split ! $ move ! (1 ∷ []) $ use1 W (raw (fact 𝓤 (k ≡ postingReplyOf (r .answer) .refusal))) (number-of 𝓤 H A W mem run (r .answer) k) $
+        heard ! (k ≡ postingReplyOf (r .answer) .refusal) (λ ek. split ! $ drop ! $
         facts ! u8 (Is u8) (shows 𝓤 H A u8) k (v ∷ []) (λ iv.
         land ! (from ! (stop !)) (init ! 12 refl (uint-lawful 𝓤 H A W w8 .typed k (v ∷ []) iv .0)) $
         rewrite ! 12 (λ (y : Val). ‵ (fat fullShare byte l₁₅ 0 y)) (ap only (uint-tells w8 k (v ∷ []) iv)) refl $
@@ -317,10 +341,12 @@ module _ {M : Type 1} (𝓤 : URA M) (H : Heap 𝓤) (A : Atoms 𝓤) (W : Given
         move ! (1 ∷ []) $ drop ! $ owned ! u8 (Is u8) (uint-makes 𝓤 H A W w8) k (vint w8 k ∷ []) (refl, iv .1) $ move ! (1 ∷ 0 ∷ []) $
         elem-put ! u8 fullShare (t .zs) (t .i) k (vint w8 k ∷ []) b′ o′ (laws s₀ xs rs .here t lt fit) $ move ! (1 ∷ 2 ∷ 3 ∷ []) $
         -- the next book, and the next place
-        assigns ! (of-opd ! (load ! (from ! (fld ! refl (stop !))) (look-in ! 32 (sub ! 0 refl (whole !))))) (from ! (stop !)) (store ! 40 refl (LL.lawful B.the-type B′.the-laws 𝓤 H A W .typed (r .book) (lowB (r .book) ∷ []) (after r u is) .0)) $
+        assigns ! (of-opd ! (load ! (from ! (fld ! refl (stop !))) (look-in ! 32 (sub ! 0 refl (whole !))))) (from ! (stop !))
+        (store ! 40 refl (LL.lawful B.the-type B′.the-laws 𝓤 H A W .typed (r .book) (lowB (r .book) ∷ []) (after r u is) .0)) $
         assigns-last ! (bin ! (load ! (from ! (stop !)) (look ! 34 refl)) (lit ! tt) (record { fits = next-fits })) (from ! (stop !)) (store ! 34 refl (tt, record { fits = next-fits })) $
         forget ! 10 refl $ forget ! 12 refl $ forget ! 14 refl $ forget ! 16 refl $ forget ! 18 refl $ forget ! 20 refl $ forget ! 32 refl $
-        again ! Less I t (next s₀ xs rs t lt fit (r .book) k (ap (λ (p : PostedReply). p .book) er) (ek ∙ ap (λ (p : PostedReply). p .reply .refusal) er) (after r u is)) (laws s₀ xs rs .less t lt)))))))))))
+        again ! Less I t (next s₀ xs rs t lt fit (r .book) k (ap (λ (p : PostedReply). p .book) er)
+        (ek ∙ ap (λ (p : PostedReply). p .reply .refusal) er) (after r u is)) (laws s₀ xs rs .less t lt)))))))))))
       where
         lt : t .i < n
         lt = ltb-true (t .i) n e
@@ -328,7 +354,7 @@ module _ {M : Type 1} (𝓤 : URA M) (H : Heap 𝓤) (A : Atoms 𝓤) (W : Given
         x : Raw
         x = getD xs (t .i) noRaw
 
-        far : t .i * 24 < 2 ^ 64
+        far : t .i * rawBytes < 2 ^ 64
         far = omega (arith, gn .1, lt)
 
         next-fits : t .i + 1 < 2 ^ 64
@@ -355,7 +381,11 @@ module _ {M : Type 1} (𝓤 : URA M) (H : Heap 𝓤) (A : Atoms 𝓤) (W : Given
         move ! (3 ∷ 4 ∷ 5 ∷ 6 ∷ []) $ closes-slice ! tt u8 rs (t .zs) (t .len) b′ o′ $ move ! (3 ∷ 4 ∷ []) $ shuts-slice ! tt R.the-row z xs b o $
         -- [κ's token; obs; the borrow; κ′'s token; the fractured borrow; res; _17; …; _0; …]
         returns ! (look ! 40 refl) $ forget ! 6 refl $ forget ! 16 refl $ forget ! 18 refl $ forget ! 32 refl $ forget ! 34 refl $ forget ! 36 refl $ forget ! 38 refl $ forget ! 40 refl $
-        move ! (40 ∷ 41 ∷ []) $ free1 ! $ move ! (38 ∷ 39 ∷ []) $ free1 ! $ move ! (36 ∷ 37 ∷ []) $ free1 ! $ move ! (34 ∷ 35 ∷ []) $ free1 ! $ move ! (32 ∷ 33 ∷ []) $ free1 ! $ move ! (30 ∷ 31 ∷ []) $ free1 ! $ move ! (28 ∷ 29 ∷ []) $ free1 ! $ move ! (26 ∷ 27 ∷ []) $ free1 ! $ move ! (24 ∷ 25 ∷ []) $ free1 ! $ move ! (22 ∷ 23 ∷ []) $ free1 ! $ move ! (20 ∷ 21 ∷ []) $ free1 ! $ move ! (18 ∷ 19 ∷ []) $ free1 ! $ move ! (16 ∷ 17 ∷ []) $ free1 ! $ move ! (14 ∷ 15 ∷ []) $ free1 ! $ move ! (12 ∷ 13 ∷ []) $ free1 ! $ move ! (10 ∷ 11 ∷ []) $ free1 ! $ move ! (8 ∷ 9 ∷ []) $ free1 ! $ move ! (6 ∷ 7 ∷ []) $ free1 ! $ free0 ! $
+        move ! (40 ∷ 41 ∷ []) $ free1 ! $ move ! (38 ∷ 39 ∷ []) $ free1 ! $ move ! (36 ∷ 37 ∷ []) $ free1 ! $ move ! (34 ∷ 35 ∷ []) $ free1 ! $
+        move ! (32 ∷ 33 ∷ []) $ free1 ! $ move ! (30 ∷ 31 ∷ []) $ free1 ! $ move ! (28 ∷ 29 ∷ []) $ free1 ! $ move ! (26 ∷ 27 ∷ []) $ free1 ! $
+        move ! (24 ∷ 25 ∷ []) $ free1 ! $ move ! (22 ∷ 23 ∷ []) $ free1 ! $ move ! (20 ∷ 21 ∷ []) $ free1 ! $ move ! (18 ∷ 19 ∷ []) $ free1 ! $
+        move ! (16 ∷ 17 ∷ []) $ free1 ! $ move ! (14 ∷ 15 ∷ []) $ free1 ! $ move ! (12 ∷ 13 ∷ []) $ free1 ! $ move ! (10 ∷ 11 ∷ []) $ free1 ! $
+        move ! (8 ∷ 9 ∷ []) $ free1 ! $ move ! (6 ∷ 7 ∷ []) $ free1 ! $ free0 ! $
         by ! (exits t fit (ltb-false (t .i) n e))
 
     turn-at : (t : Turn s₀ xs rs) (y : Bool) → ltb (t .i) n ≡ y → ent 𝓤 (⋆ 𝓤 H A (I t)) (Wp 𝓤 H C Λ En body.turn-1 (afterTurn 𝓤 H (Below 𝓤 H A Less I t) Left))
@@ -363,7 +393,9 @@ module _ {M : Type 1} (𝓤 : URA M) (H : Heap 𝓤) (A : Atoms 𝓤) (W : Given
     turn-at t false e = ends t e
 
     looped : ent 𝓤 (⋆ 𝓤 H A (I (start s₀ xs rs ok₀))) (Wp 𝓤 H C Λ En (loop body.turn-1) Left)
-    looped = loop-rule 𝓤 H (W .laws) 𝓣 Less (InvImage·wf (λ (t : Turn s₀ xs rs). n - t .i) (Nat·lt-wfRel .wf)) En body.turn-1 Left (λ t. ⋆ 𝓤 H A (I t)) (λ t. turn-at t (ltb (t .i) n) refl) (start s₀ xs rs ok₀)
+    looped =
+        loop-rule 𝓤 H (W .laws) 𝓣 Less (InvImage·wf (λ (t : Turn s₀ xs rs). n - t .i) (Nat·lt-wfRel .wf)) En body.turn-1 Left (λ t. ⋆ 𝓤 H A (I t))
+        (λ t. turn-at t (ltb (t .i) n) refl) (start s₀ xs rs ok₀)
 
   -- ---- the body up to the loop
   walk : (𝓣 : Tables 𝓤 H) → Triple 𝓤 (𝓣 .C post-def.name) (PostC 𝓤 H A W mem run) → Triple 𝓤 (𝓣 .C number-def.name) (NumberC 𝓤 H A W mem run)
@@ -380,11 +412,17 @@ module _ {M : Type 1} (𝓤 : URA M) (H : Heap 𝓤) (A : Atoms 𝓤) (W : Given
       branch-or ! (load ! (from ! (stop !)) (look ! 18 refl))
       -- the result list is too short
       (λ y. assigns ! (agg ! (and-then ! (lit ! tt) (no-more !))) (from ! (stop !)) (init ! 16 refl (EL.lawful F.the-type F′.the-laws 𝓤 H A W tt .typed ResultsShort (lowF ResultsShort ∷ []) okF .0)) $
-      assigns ! (agg ! (and-then ! (lit ! tt) (and-then ! (load ! (from ! (stop !)) (look ! 16 refl)) (no-more !)))) (from ! (stop !)) (init ! 14 refl (EL.lawful CA.the-type CA′.the-laws 𝓤 H A W tt .typed (Refused ResultsShort) (lowV (Refused ResultsShort) ∷ []) okRefused .0)) $
+      assigns ! (agg ! (and-then ! (lit ! tt) (and-then ! (load ! (from ! (stop !)) (look ! 16 refl)) (no-more !)))) (from ! (stop !))
+      (init ! 14 refl (EL.lawful CA.the-type CA′.the-laws 𝓤 H A W tt .typed (Refused ResultsShort) (lowV (Refused ResultsShort) ∷ []) okRefused .0)) $
       assigns ! (agg ! (and-then ! (load ! (from ! (stop !)) (look ! 32 refl)) (and-then ! (load ! (from ! (stop !)) (look ! 14 refl)) (no-more !)))) (from ! (stop !))
       (init ! 34 refl (LL.lawful K.the-type K′.the-laws 𝓤 H A W .typed short (lowK short ∷ []) (okK s₀ (Refused ResultsShort) ok₀ okRefused) .0)) $
-      returns-within ! Post refl (look ! 34 refl) $ forget ! 14 refl $ forget ! 16 refl $ forget ! 18 refl $ forget ! 20 refl $ forget ! 22 refl $ forget ! 28 refl $ forget ! 30 refl $ forget ! 32 refl $ forget ! 34 refl $
-      move ! (34 ∷ 35 ∷ []) $ free1 ! $ move ! (32 ∷ 33 ∷ []) $ free1 ! $ move ! (30 ∷ 31 ∷ []) $ free1 ! $ move ! (28 ∷ 29 ∷ []) $ free1 ! $ move ! (26 ∷ 27 ∷ []) $ free1 ! $ move ! (24 ∷ 25 ∷ []) $ free1 ! $ move ! (22 ∷ 23 ∷ []) $ free1 ! $ move ! (20 ∷ 21 ∷ []) $ free1 ! $ move ! (18 ∷ 19 ∷ []) $ free1 ! $ move ! (16 ∷ 17 ∷ []) $ free1 ! $ move ! (14 ∷ 15 ∷ []) $ free1 ! $ move ! (12 ∷ 13 ∷ []) $ free1 ! $ move ! (10 ∷ 11 ∷ []) $ free1 ! $ move ! (8 ∷ 9 ∷ []) $ free1 ! $ move ! (6 ∷ 7 ∷ []) $ free1 ! $ move ! (4 ∷ 5 ∷ []) $ free1 ! $ move ! (2 ∷ 3 ∷ []) $ free1 ! $ move ! (0 ∷ 1 ∷ []) $ free1 ! $ free0 ! $ by ! (exits-short (lt-ltb m n (ltb→lt m n y))))
+      returns-within ! Post refl (look ! 34 refl) $ forget ! 14 refl $ forget ! 16 refl $ forget ! 18 refl $ forget ! 20 refl $ forget ! 22 refl $
+      forget ! 28 refl $ forget ! 30 refl $ forget ! 32 refl $ forget ! 34 refl $
+      move ! (34 ∷ 35 ∷ []) $ free1 ! $ move ! (32 ∷ 33 ∷ []) $ free1 ! $ move ! (30 ∷ 31 ∷ []) $ free1 ! $ move ! (28 ∷ 29 ∷ []) $ free1 ! $
+      move ! (26 ∷ 27 ∷ []) $ free1 ! $ move ! (24 ∷ 25 ∷ []) $ free1 ! $ move ! (22 ∷ 23 ∷ []) $ free1 ! $ move ! (20 ∷ 21 ∷ []) $ free1 ! $
+      move ! (18 ∷ 19 ∷ []) $ free1 ! $ move ! (16 ∷ 17 ∷ []) $ free1 ! $ move ! (14 ∷ 15 ∷ []) $ free1 ! $ move ! (12 ∷ 13 ∷ []) $ free1 ! $
+      move ! (10 ∷ 11 ∷ []) $ free1 ! $ move ! (8 ∷ 9 ∷ []) $ free1 ! $ move ! (6 ∷ 7 ∷ []) $ free1 ! $ move ! (4 ∷ 5 ∷ []) $ free1 ! $
+      move ! (2 ∷ 3 ∷ []) $ free1 ! $ move ! (0 ∷ 1 ∷ []) $ free1 ! $ free0 ! $ by ! (exits-short (lt-ltb m n (ltb→lt m n y))))
       -- the result list is long enough
       (λ y.
       assigns ! (of-opd ! (lit ! tt)) (from ! (stop !)) (init ! 26 refl (tt, record { fits = lit< tt })) $ forget ! 18 refl $ forget ! 20 refl $ forget ! 22 refl $ first ! $ blocks ! $
@@ -395,7 +433,8 @@ module _ {M : Type 1} (𝓤 : URA M) (H : Heap 𝓤) (A : Atoms 𝓤) (W : Given
       -- [κ′'s token; true; κ's token; obs; the borrow; true; res; the fractured borrow; the locals]
       move ! (3 ∷ 4 ∷ 0 ∷ []) $ opens-slice ! tt u8 rs b′ o′ $
       -- [the results; the open borrow; obs; auth; true; κ's token; true; res; the fractured borrow; the locals]
-      move ! (8 ∷ 5 ∷ []) $ looks-slice ! tt R.the-row (Is R.the-row) (shows 𝓤 H A R.the-row) (LL.vals R.the-type R′.the-laws) (LL.tells R.the-type R′.the-laws) (LL.copy R.the-type R′.the-copy 𝓤 H A W) xs b o (λ z.
+      move ! (8 ∷ 5 ∷ []) $ looks-slice ! tt R.the-row (Is R.the-row) (shows 𝓤 H A R.the-row) (LL.vals R.the-type R′.the-laws)
+      (LL.tells R.the-type R′.the-laws) (LL.copy R.the-type R′.the-copy 𝓤 H A W) xs b o (λ z.
       -- [the entries; the open borrow; the fractured borrow; the results; the open borrow; obs; auth; true; true; res; the locals]
       move ! (7 ∷ 8 ∷ []) $ drop ! $ drop ! $ by ! (looped 𝓣 known known-number (nltb→le m n y) z l₀ l₁ l₂ l₃ l₄ l₅ l₆ l₇ l₈ l₉ l₁₀ l₁₁ l₁₂ l₁₃ l₁₄ l₁₅ l₁₆ l₁₇)))))))))))))))))))))
 
@@ -404,17 +443,22 @@ module _ {M : Type 1} (𝓤 : URA M) (H : Heap 𝓤) (A : Atoms 𝓤) (W : Given
   carry-over-walks : (𝓣 : Tables 𝓤 H) → Triple 𝓤 (𝓣 .C post-def.name) (PostC 𝓤 H A W mem run) → Triple 𝓤 (𝓣 .C number-def.name) (NumberC 𝓤 H A W mem run)
       → Walks 𝓤 H A carry-over.ended stayed (WpFn 𝓤 H (𝓣 .C) (𝓣 .Λ) code.function) (carry-over.clauses 𝓤 H A mem run)
   carry-over-walks 𝓣 known known-number = walked 𝓤 H A carry-over.ended stayed (carry-over.clauses 𝓤 H A mem run) (WpFn 𝓤 H (𝓣 .C) (𝓣 .Λ) code.function)
-      (λ κs. (LL.vals B.the-type B′.the-laws, (slice-vals, (slice-vals, tt)))) (λ κs. (LL.tells B.the-type B′.the-laws, (shr-slice-tells (named 0) (κs .0) R.the-row, (mut-slice-tells (named 1) (κs .1 .0) u8, tt))))
+      (λ κs. (LL.vals B.the-type B′.the-laws, (slice-vals, (slice-vals, tt))))
+      (λ κs. (LL.tells B.the-type B′.the-laws, (shr-slice-tells (named 0) (κs .0) R.the-row, (mut-slice-tells (named 1) (κs .1 .0) u8, tt))))
       (λ κs qs bounds a g are. via 𝓤 _ (fst∗ 𝓤 _ (emp 𝓤))
-      (walk 𝓤 H A W mem run (κs .0) (κs .1 .0) (qs .0) (qs .1 .0) (a .0) (a .1 .0 .ptr .0) (a .1 .0 .ptr .1) (a .1 .0 .name) (a .1 .0 .now) (a .1 .1 .0 .ptr .0) (a .1 .1 .0 .ptr .1) (a .1 .1 .0 .name) (a .1 .1 .0 .now)
+      (walk 𝓤 H A W mem run (κs .0) (κs .1 .0) (qs .0) (qs .1 .0) (a .0) (a .1 .0 .ptr .0) (a .1 .0 .ptr .1) (a .1 .0 .name) (a .1 .0 .now)
+      (a .1 .1 .0 .ptr .0) (a .1 .1 .0 .ptr .1) (a .1 .1 .0 .name) (a .1 .1 .0 .now)
       (are .0) (are .1 .0 .0 .1) (are .1 .1 .0 .0 .1) 𝓣 known known-number))
 
   goes : AllGo 𝓤 H A W 2 (carry-over.signature .params) (carry-over.ended .kept) stayed
   goes = (goes-none 𝓤 H A W 2 (λ _. B.the-row) yes (λ κs x f. refl), (goes-none-slice 𝓤 H A W 2 (0 ∷ []) tt (plain (λ _. R.the-row)) yes, (goes-slice 𝓤 H A W 2 1 tt (plain (λ _. u8)), tt)))
 
 carry-over-meets : {M : Type 1} (𝓤 : URA M) (H : Heap 𝓤) (A : Atoms 𝓤) (W : Given 𝓤 H A) (mem : Memory → SProp 𝓤) (run : Routine → Fun 𝓤) (𝓣 : Tables 𝓤 H)
-    → Triple 𝓤 (𝓣 .C post-def.name) (PostC 𝓤 H A W mem run) → Triple 𝓤 (𝓣 .C number-def.name) (NumberC 𝓤 H A W mem run) → Meets 𝓤 H A carry-over.signature (WpFn 𝓤 H (𝓣 .C) (𝓣 .Λ) code.function) (carry-over.spec 𝓤 H A mem run)
-carry-over-meets 𝓤 H A W mem run 𝓣 known known-number = walk-meets 𝓤 H A carry-over.ended stayed W (goes 𝓤 H A W mem run) (carry-over.clauses 𝓤 H A mem run) (WpFn 𝓤 H (𝓣 .C) (𝓣 .Λ) code.function) (WpFn-mono 𝓤 H (W .laws) 𝓣 code.function)
+    → Triple 𝓤 (𝓣 .C post-def.name) (PostC 𝓤 H A W mem run) → Triple 𝓤 (𝓣 .C number-def.name) (NumberC 𝓤 H A W mem run) →
+    Meets 𝓤 H A carry-over.signature (WpFn 𝓤 H (𝓣 .C) (𝓣 .Λ) code.function) (carry-over.spec 𝓤 H A mem run)
+carry-over-meets 𝓤 H A W mem run 𝓣 known known-number =
+    walk-meets 𝓤 H A carry-over.ended stayed W (goes 𝓤 H A W mem run) (carry-over.clauses 𝓤 H A mem run) (WpFn 𝓤 H (𝓣 .C) (𝓣 .Λ) code.function)
+    (WpFn-mono 𝓤 H (W .laws) 𝓣 code.function)
     (carry-over-walks 𝓤 H A W mem run 𝓣 known known-number)
 
 pub carry-over-spec : {M : Type 1} → stated.statement M

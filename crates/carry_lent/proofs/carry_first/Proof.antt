@@ -50,8 +50,8 @@ use Rattle.entries.specs.declared.raw.Raw.{Raw}
 use Rattle.book.specs.declared.Book.{Book}
 use Rattle.carry.specs.declared.Carried.{Carried}
 use Rattle.carry_lent.specs.Lent.{atOnce}
-use Rattle.carry.proofs.Fold.{lowB, Said}
-use Rattle.carry_lent.proofs.Lender.{behind, front-out, front-in, array-in, array-out}
+use Rattle.carry.proofs.Carry.{lowB, Said}
+use Rattle.carry_lent.proofs.Lent.{behind, front-out, front-in, array-in, array-out}
 use Rattle.entries.proofs.raw.Raw as R
 use Rattle.entries.proofs.raw.Raw.Laws as R′
 use Rattle.book.proofs.Book as B
@@ -93,7 +93,17 @@ mutE = sliceTy refE
 
 -- the function, with its locals' types by the names that the walk has for them
 abbrev written : Fn
-written = record { lifetimes = 1; outlives = []; params = 4; locals = local K′.mir valueLocal ∷ local B′.mir valueLocal ∷ local arr valueLocal ∷ local word valueLocal ∷ local mutable valueLocal ∷ local arr memorySlot ∷ local word valueLocal ∷ local ref-arr valueLocal ∷ local shrE valueLocal ∷ local refE valueLocal ∷ local mutE valueLocal ∷ []; body = body.t-1 }
+written =
+    record {
+      lifetimes = 1;
+      outlives = [];
+      params = 4;
+      locals =
+          local K′.mir valueLocal ∷ local B′.mir valueLocal ∷ local arr valueLocal ∷ local word valueLocal ∷ local mutable valueLocal ∷
+          local arr memorySlot ∷ local word valueLocal ∷ local ref-arr valueLocal ∷ local shrE valueLocal ∷ local refE valueLocal ∷
+          local mutE valueLocal ∷ [];
+      body = body.t-1;
+    }
 
 is-written : written ≡ code.function
 is-written = refl
@@ -197,10 +207,12 @@ module _ {M : Type 1} (𝓤 : URA M) (H : Heap 𝓤) (A : Atoms 𝓤) (W : Given
     abbrev to : CarryC 𝓤 H A mem run .Ghost
     to = (((α ∷ [], (κ, tt)), (fullShare, (q, tt)), tt, given-args, passed), tt)
 
-    goes-carry : ent 𝓤 (⋆ 𝓤 H A ((‵ (flft (α ∷ []) fullShare) ⊛ ‵ (flft κ q)) ∷ (‵ (ShrSlice (named 0) (α ∷ []) R.the-row .own lent (sliceVal (l, 0) (length ys) ∷ [])) ⊛ ‵ (MutSlice (named 1) κ u8 .own results (sliceVal (b, o) m ∷ []))) ∷ []))
+    goes-carry : ent 𝓤 (⋆ 𝓤 H A ((‵ (flft (α ∷ []) fullShare) ⊛ ‵ (flft κ q)) ∷ (‵ (ShrSlice (named 0)
+        (α ∷ []) R.the-row .own lent (sliceVal (l, 0) (length ys) ∷ [])) ⊛ ‵ (MutSlice (named 1) κ u8 .own results (sliceVal (b, o) m ∷ []))) ∷ []))
         (CarryC 𝓤 H A mem run .pre to)
     goes-carry =
-        qed W ((‵ (flft (α ∷ []) fullShare) ⊛ ‵ (flft κ q)) ∷ (‵ (ShrSlice (named 0) (α ∷ []) R.the-row .own lent (sliceVal (l, 0) (length ys) ∷ [])) ⊛ ‵ (MutSlice (named 1) κ u8 .own results (sliceVal (b, o) m ∷ []))) ∷ []) ∵
+        qed W ((‵ (flft (α ∷ []) fullShare) ⊛ ‵ (flft κ q)) ∷ (‵ (ShrSlice (named 0)
+        (α ∷ []) R.the-row .own lent (sliceVal (l, 0) (length ys) ∷ [])) ⊛ ‵ (MutSlice (named 1) κ u8 .own results (sliceVal (b, o) m ∷ []))) ∷ []) ∵
         split ! $ move ! (2 ∷ []) $ split ! $
         -- [entries; results; the tokens]
         nothing ! $ move ! (2 ∷ 0 ∷ []) $ fjoin ! $ move ! (1 ∷ 0 ∷ []) $ fjoin ! $ owned ! B.the-row (Is B.the-row) (LL.makes B.the-type B′.the-plain 𝓤 H A) s (lowB s ∷ []) okB $ fjoin ! $
@@ -216,7 +228,8 @@ module _ {M : Type 1} (𝓤 : URA M) (H : Heap 𝓤) (A : Atoms 𝓤) (W : Given
         pass1 ! (init ! 16 refl (array-lawful 𝓤 H A W R.the-row (LL.lawful R.the-type R′.the-laws 𝓤 H A W) atOnce .typed xs (av ∷ []) okA .0)) $
         pass1 ! (init ! 14 refl (tt, record { fits = fc })) $ pass1 ! (init ! 12 refl (tt, (tt, (record { fits = gm .0 }, tt)))) $ pass0 ! $
         -- the array's copy in memory
-        assigns ! (of-opd ! (load ! (from ! (stop !)) (look ! 16 refl))) (from ! (stop !)) (init ! 10 refl (array-lawful 𝓤 H A W R.the-row (LL.lawful R.the-type R′.the-laws 𝓤 H A W) atOnce .typed xs (av ∷ []) okA .0)) $
+        assigns ! (of-opd ! (load ! (from ! (stop !)) (look ! 16 refl))) (from ! (stop !))
+        (init ! 10 refl (array-lawful 𝓤 H A W R.the-row (LL.lawful R.the-type R′.the-laws 𝓤 H A W) atOnce .typed xs (av ∷ []) okA .0)) $
         -- how many are lent
         owned ! usize (Is usize) (uint-makes 𝓤 H A W w64) c (vint w64 c ∷ []) (refl, fc) $
         use1 W (raw (TakenC 𝓤 H A mem run .pre (to-taken 𝓤 H A W mem run c))) (goes-taken 𝓤 H A W mem run c) $
@@ -228,15 +241,20 @@ module _ {M : Type 1} (𝓤 : URA M) (H : Heap 𝓤) (A : Atoms 𝓤) (W : Given
         rewrite ! 8 (λ (y : Val). ‵ (fat fullShare word l₆ 0 y)) (ap only (uint-tells w64 k (v ∷ []) iv) ∙ ap (λ (j : ℕ). vint w64 j) ek) refl $
         -- the two slice references
         assigns ! (addr ! (from ! (stop !))) (from ! (stop !)) (init ! 6 refl (tt, tt)) $
-        assigns ! (agg ! (and-then ! (load ! (from ! (stop !)) (look ! 6 refl)) (and-then ! (load ! (from ! (stop !)) (look ! 8 refl)) (no-more !)))) (from ! (stop !)) (init ! 4 refl (tt, (tt, (record { fits = fn }, tt)))) $
+        assigns ! (agg ! (and-then ! (load ! (from ! (stop !)) (look ! 6 refl)) (and-then ! (load ! (from ! (stop !)) (look ! 8 refl)) (no-more !))))
+        (from ! (stop !)) (init ! 4 refl (tt, (tt, (record { fits = fn }, tt)))) $
         assigns ! (addr ! (from ! (fld ! refl (hop ! (look-in ! 12 (sub ! 0 refl (whole !))) (stop !))))) (from ! (stop !)) (init ! 2 refl (tt, tt)) $
-        assigns ! (agg ! (and-then ! (load ! (from ! (stop !)) (look ! 2 refl)) (and-then ! (load ! (from ! (fld ! refl (stop !))) (look-in ! 12 (sub ! 1 refl (whole !)))) (no-more !)))) (from ! (stop !)) (init ! 0 refl (tt, (tt, (record { fits = gm .0 }, tt)))) $
+        assigns ! (agg ! (and-then ! (load ! (from ! (stop !)) (look ! 2 refl))
+        (and-then ! (load ! (from ! (fld ! refl (stop !))) (look-in ! 12 (sub ! 1 refl (whole !)))) (no-more !)))) (from ! (stop !))
+        (init ! 0 refl (tt, (tt, (record { fits = gm .0 }, tt)))) $
         rewrite ! 4 (λ (j : ℕ). ‵ (fat fullShare shrE l₈ 0 (sliceVal (l₅, 0) j))) count refl $
         -- the array is a row, whose front is lent for a lifetime that is made here
         move ! (10 ∷ []) $ use1 W (‵ (row R.the-row fullShare xs l₅ 0)) (array-in 𝓤 H A W R.the-row tt valsR tellsR (LL.makes R.the-type R′.the-plain 𝓤 H A) atOnce xs l₅ 0 okA) $
-        use1 W (‵ (row R.the-row fullShare ys l₅ 0) ⊛ ‵ (behind R.the-row fullShare n xs l₅ 0)) (front-out 𝓤 H A W R.the-row fullShare n xs l₅ 0) $ split ! $ feqI ! ℕ (length ys) (length ys) refl $ fjoin ! $
+        use1 W (‵ (row R.the-row fullShare ys l₅ 0) ⊛ ‵ (behind R.the-row fullShare n xs l₅ 0)) (front-out 𝓤 H A W R.the-row fullShare n xs l₅ 0) $
+        split ! $ feqI ! ℕ (length ys) (length ys) refl $ fjoin ! $
         lft-new ! tt (λ α. move ! (1 ∷ []) $
-        use1 W (later (some (λ (δ : GName). ‵ (ShrSlice (named 0) (α ∷ []) R.the-row .own (lent α l₅ δ) (sliceVal (l₅, 0) (length ys) ∷ [])) ⊛ ‵ (flent (α ∷ []) (arr-parts (shares R.the-row) (length ys) .part fullShare ys l₅ 0)))))
+        use1 W (later (some (λ (δ : GName). ‵ (ShrSlice (named 0) (α ∷ []) R.the-row .own (lent α l₅ δ)
+        (sliceVal (l₅, 0) (length ys) ∷ [])) ⊛ ‵ (flent (α ∷ []) (arr-parts (shares R.the-row) (length ys) .part fullShare ys l₅ 0)))))
         (lends-shr-slice 𝓤 H A W R.the-row (named 0) (α ∷ []) fullShare ys l₅ 0 roomR) $ await ! tt $ pick ! (λ δ. split ! $
         -- [entries; the lender's part; α's token; behind; _10; …; _6; …; that _5 dies; _4; …; _0; …; κ's token; what the parameters own]
         move ! (26 ∷ []) $ fsplit ! $ drop ! $ fsplit ! $ drop ! $ fsplit ! $ drop ! $ fsplit ! $
@@ -244,9 +262,12 @@ module _ {M : Type 1} (𝓤 : URA M) (H : Heap 𝓤) (A : Atoms 𝓤) (W : Given
         move ! (27 ∷ []) $ split ! $ move ! (6 ∷ 0 ∷ []) $ join ! $ move ! (4 ∷ 2 ∷ []) $ join ! $ move ! (1 ∷ 0 ∷ []) $
         -- [the tokens; the slices; true; true; the lender's part; behind; _10; …]
         use2 W (raw (CarryC 𝓤 H A mem run .pre (to α l₅ δ))) (goes-carry α l₅ δ) $
-        calls-at ! fm (CarryC 𝓤 H A mem run) known (to α l₅ δ) (and-then ! (load ! (from ! (stop !)) (look ! 22 refl)) (and-then ! (load ! (from ! (stop !)) (look ! 9 refl)) (and-then ! (load ! (from ! (stop !)) (look ! 5 refl)) (no-more !)))) (λ u.
+        calls-at ! fm (CarryC 𝓤 H A mem run) known (to α l₅ δ)
+        (and-then ! (load ! (from ! (stop !)) (look ! 22 refl))
+        (and-then ! (load ! (from ! (stop !)) (look ! 9 refl)) (and-then ! (load ! (from ! (stop !)) (look ! 5 refl)) (no-more !)))) (λ u.
         use1 W (later (some (λ (r : Carried). ((‵ (flft (α ∷ []) fullShare) ⊛ (‵ (flft κ q) ⊛ ‵ ftrue)) ⊛ ‵ (K.the-row .own r (u ∷ []))) ⊛ raw (ensured 𝓤 H A carry-over.ended (carry-over.clauses 𝓤 H A mem run) (α ∷ [], (κ, tt)) (given-args α l₅ δ) tt r)))) (id⊢ 𝓤 _) $ await ! tt $ pick ! (λ r.
-        split ! $ move ! (1 ∷ []) $ use1 W (some (λ (ws : Unit {0} × (Unit {0} × (List ℕ × Unit {0}))). ‵ (lasts carry-over.ended (α ∷ [], (κ, tt)) (given-args α l₅ δ) ws) ⊛ raw (fact 𝓤 (Said s ys rs r (ws .1 .1 .0))))) (id⊢ 𝓤 _) $ pick ! (λ ws.
+        split ! $ move ! (1 ∷ []) $ use1 W (some (λ (ws : Unit {0} × (Unit {0} × (List ℕ × Unit {0}))). ‵ (lasts carry-over.ended (α ∷ [], (κ, tt))
+        (given-args α l₅ δ) ws) ⊛ raw (fact 𝓤 (Said s ys rs r (ws .1 .1 .0))))) (id⊢ 𝓤 _) $ pick ! (λ ws.
         split ! $ move ! (1 ∷ []) $ heard ! (Said s ys rs r (ws .1 .1 .0)) (λ e. fsplit ! $ drop ! $ fsplit ! $ drop ! $ fsplit ! $ fsplit ! $ move ! (1 ∷ []) $ feqL ! (λ l.
         -- [the last list; true; the tokens and the result; true; true; the lender's part; behind; _10; …]
         move ! (2 ∷ []) $ split ! $ split ! $
@@ -256,25 +277,41 @@ module _ {M : Type 1} (𝓤 : URA M) (H : Heap 𝓤) (A : Atoms 𝓤) (W : Given
         -- [room for _5; κ's token; the result; the last list; true; true; true; _10; …]
         move ! (2 ∷ []) $ peeks ! K.the-row (Is K.the-row) (shows 𝓤 H A K.the-row) r (u ∷ []) (λ is.
         land ! (from ! (stop !)) (init ! 26 refl (LL.lawful K.the-type K′.the-laws 𝓤 H A W .typed r (u ∷ []) is .0)) $
-        returns ! (look ! 26 refl) $ forget ! 7 refl $ forget ! 9 refl $ forget ! 11 refl $ forget ! 13 refl $ forget ! 15 refl $ forget ! 18 refl $ forget ! 20 refl $ forget ! 22 refl $ forget ! 24 refl $ forget ! 26 refl $
-        move ! (26 ∷ 27 ∷ []) $ free1 ! $ move ! (24 ∷ 25 ∷ []) $ free1 ! $ move ! (22 ∷ 23 ∷ []) $ free1 ! $ move ! (20 ∷ 21 ∷ []) $ free1 ! $ move ! (18 ∷ 19 ∷ []) $ free1 ! $ move ! (1 ∷ 17 ∷ []) $ free1 ! $ move ! (14 ∷ 15 ∷ []) $ free1 ! $ move ! (12 ∷ 13 ∷ []) $ free1 ! $ move ! (10 ∷ 11 ∷ []) $ free1 ! $ move ! (8 ∷ 9 ∷ []) $ free1 ! $ move ! (6 ∷ 7 ∷ []) $ free1 ! $ free0 ! $
+        returns ! (look ! 26 refl) $ forget ! 7 refl $ forget ! 9 refl $ forget ! 11 refl $ forget ! 13 refl $ forget ! 15 refl $ forget ! 18 refl $
+        forget ! 20 refl $ forget ! 22 refl $ forget ! 24 refl $ forget ! 26 refl $
+        move ! (26 ∷ 27 ∷ []) $ free1 ! $ move ! (24 ∷ 25 ∷ []) $ free1 ! $ move ! (22 ∷ 23 ∷ []) $ free1 ! $ move ! (20 ∷ 21 ∷ []) $ free1 ! $
+        move ! (18 ∷ 19 ∷ []) $ free1 ! $ move ! (1 ∷ 17 ∷ []) $ free1 ! $ move ! (14 ∷ 15 ∷ []) $ free1 ! $ move ! (12 ∷ 13 ∷ []) $ free1 ! $
+        move ! (10 ∷ 11 ∷ []) $ free1 ! $ move ! (8 ∷ 9 ∷ []) $ free1 ! $ move ! (6 ∷ 7 ∷ []) $ free1 ! $ free0 ! $
         keep ! (1 ∷ 2 ∷ 0 ∷ []) $ by ! (exits r u (ws .1 .1 .0) e l))))))))))))))))))))))))
 
 module _ {M : Type 1} (𝓤 : URA M) (H : Heap 𝓤) (A : Atoms 𝓤) (W : Given 𝓤 H A) (mem : Memory → SProp 𝓤) (run : Routine → Fun 𝓤) where
   carry-first-walks : (C : Calls 𝓤 H) (Λ : Loops 𝓤 H) → FmC 𝓤 H (W .laws) C → Triple 𝓤 (C carry-def.name) (CarryC 𝓤 H A mem run) → Triple 𝓤 (C taken-def.name) (TakenC 𝓤 H A mem run)
       → Walks 𝓤 H A carry-first.ended stayed (WpFn 𝓤 H C Λ code.function) (carry-first.clauses 𝓤 H A mem run)
   carry-first-walks C Λ fm known known-taken = walked 𝓤 H A carry-first.ended stayed (carry-first.clauses 𝓤 H A mem run) (WpFn 𝓤 H C Λ code.function)
-      (λ κs. (LL.vals B.the-type B′.the-laws, (array-vals valsR, (uint-vals w64, (slice-vals, tt))))) (λ κs. (LL.tells B.the-type B′.the-laws, (array-tells R.the-row valsR tellsR atOnce, (uint-tells w64, (mut-slice-tells (named 0) (κs .0) u8, tt)))))
+      (λ κs. (LL.vals B.the-type B′.the-laws, (array-vals valsR, (uint-vals w64, (slice-vals, tt)))))
+      (λ κs. (
+        LL.tells B.the-type B′.the-laws,
+        (array-tells R.the-row valsR tellsR atOnce, (uint-tells w64, (mut-slice-tells (named 0) (κs .0) u8, tt))),
+      ))
       (λ κs qs bounds a g are. via 𝓤 _ (fst∗ 𝓤 _ (emp 𝓤))
       (walk 𝓤 H A W mem run (κs .0) (qs .0) (a .0) (a .1 .0) (a .1 .1 .0) (a .1 .1 .1 .0 .ptr .0) (a .1 .1 .1 .0 .ptr .1) (a .1 .1 .1 .0 .name) (a .1 .1 .1 .0 .now)
       (are .0) (are .1 .0) (are .1 .1 .0 .1) (are .1 .1 .1 .0 .0 .1) C Λ fm known known-taken))
 
   goes : AllGo 𝓤 H A W 1 (carry-first.signature .params) (carry-first.ended .kept) stayed
-  goes = (goes-dropped 𝓤 H A W 1 (plain (λ _. B.the-row)) yes (λ κs x f. refl), (goes-dropped 𝓤 H A W 1 (arrayOf (plain (λ _. R.the-row)) atOnce) yes (λ κs x f. refl), (goes-dropped 𝓤 H A W 1 (plain (λ _. usize)) yes (λ κs x f. refl), (goes-gave-slice 𝓤 H A W 1 0 tt (plain (λ _. u8)), tt))))
+  goes = (
+    goes-dropped 𝓤 H A W 1 (plain (λ _. B.the-row)) yes (λ κs x f. refl),
+    (
+      goes-dropped 𝓤 H A W 1 (arrayOf (plain (λ _. R.the-row)) atOnce) yes (λ κs x f. refl),
+      (goes-dropped 𝓤 H A W 1 (plain (λ _. usize)) yes (λ κs x f. refl), (goes-gave-slice 𝓤 H A W 1 0 tt (plain (λ _. u8)), tt)),
+    ),
+  )
 
 carry-first-meets : {M : Type 1} (𝓤 : URA M) (H : Heap 𝓤) (A : Atoms 𝓤) (W : Given 𝓤 H A) (mem : Memory → SProp 𝓤) (run : Routine → Fun 𝓤) (𝓣 : Tables 𝓤 H)
-    → Triple 𝓤 (𝓣 .C carry-def.name) (CarryC 𝓤 H A mem run) → Triple 𝓤 (𝓣 .C taken-def.name) (TakenC 𝓤 H A mem run) → Meets 𝓤 H A carry-first.signature (WpFn 𝓤 H (𝓣 .C) (𝓣 .Λ) code.function) (carry-first.spec 𝓤 H A mem run)
-carry-first-meets 𝓤 H A W mem run 𝓣 known known-taken = walk-meets 𝓤 H A carry-first.ended stayed W (goes 𝓤 H A W mem run) (carry-first.clauses 𝓤 H A mem run) (WpFn 𝓤 H (𝓣 .C) (𝓣 .Λ) code.function) (WpFn-mono 𝓤 H (W .laws) 𝓣 code.function)
+    → Triple 𝓤 (𝓣 .C carry-def.name) (CarryC 𝓤 H A mem run) → Triple 𝓤 (𝓣 .C taken-def.name) (TakenC 𝓤 H A mem run) →
+    Meets 𝓤 H A carry-first.signature (WpFn 𝓤 H (𝓣 .C) (𝓣 .Λ) code.function) (carry-first.spec 𝓤 H A mem run)
+carry-first-meets 𝓤 H A W mem run 𝓣 known known-taken =
+    walk-meets 𝓤 H A carry-first.ended stayed W (goes 𝓤 H A W mem run) (carry-first.clauses 𝓤 H A mem run) (WpFn 𝓤 H (𝓣 .C) (𝓣 .Λ) code.function)
+    (WpFn-mono 𝓤 H (W .laws) 𝓣 code.function)
     (carry-first-walks 𝓤 H A W mem run (𝓣 .C) (𝓣 .Λ) (fmOf 𝓤 H (W .laws) 𝓣) known known-taken)
 
 pub carry-first-spec : {M : Type 1} → stated.statement M

@@ -5,7 +5,14 @@ use Rattle.changes.proofs.added_customer.Tie as tie
 
 returns : tie.Need-returns
 unfolding addedCustomerOf
-returns c = simp (c .of .ensures, c .before .refunded .ensures, c .before .before .before .credited .ensures, c .before .before .before .before .refund .ensures, c .before .before .before .before .before .particulars .ensures)
+returns c =
+    simp (
+      c .of .ensures,
+      c .before .refunded .ensures,
+      c .before .before .before .credited .ensures,
+      c .before .before .before .before .refund .ensures,
+      c .before .before .before .before .before .particulars .ensures,
+    )
 
 pub added-customer-spec : {M : Type 1} → statement M
 added-customer-spec =

@@ -14,15 +14,41 @@ returns-2 c = simp (c .bill .ensures, sym (c .before .before .is2 .ensures) ∙ 
 
 returns-3 : tie.Need-returns-3
 unfolding ownChangeOf
-returns-3 c = simp (c .payment .ensures, sym (c .before .before .is3 .ensures) ∙ c .before .if3 .taken, sym (c .before .before .before .before .is2 .ensures) ∙ c .before .before .before .if2 .left, sym (c .before .before .before .before .before .before .is .ensures) ∙ c .before .before .before .before .before .if1 .left)
+returns-3 c =
+    simp (
+      c .payment .ensures,
+      sym (c .before .before .is3 .ensures) ∙ c .before .if3 .taken,
+      sym (c .before .before .before .before .is2 .ensures) ∙
+          c .before .before .before .if2 .left,
+      sym (c .before .before .before .before .before .before .is .ensures) ∙
+          c .before .before .before .before .before .if1 .left,
+    )
 
 returns-4 : tie.Need-returns-4
 unfolding ownChangeOf
-returns-4 c = simp (c .deposit .ensures, sym (c .before .before .is4 .ensures) ∙ c .before .if4 .taken, sym (c .before .before .before .before .is3 .ensures) ∙ c .before .before .before .if3 .left, sym (c .before .before .before .before .before .before .is2 .ensures) ∙ c .before .before .before .before .before .if2 .left, sym (c .before .before .before .before .before .before .before .before .is .ensures) ∙ c .before .before .before .before .before .before .before .if1 .left)
+returns-4 c =
+    simp (
+      c .deposit .ensures,
+      sym (c .before .before .is4 .ensures) ∙ c .before .if4 .taken,
+      sym (c .before .before .before .before .is3 .ensures) ∙
+          c .before .before .before .if3 .left,
+      sym (c .before .before .before .before .before .before .is2 .ensures) ∙
+          c .before .before .before .before .before .if2 .left,
+      sym (c .before .before .before .before .before .before .before .before .is .ensures) ∙
+          c .before .before .before .before .before .before .before .if1 .left,
+    )
 
 returns-5 : tie.Need-returns-5
 unfolding ownChangeOf
-returns-5 c = simp (c .deposit-return .ensures, sym (c .before .before .is4 .ensures) ∙ c .before .if4 .left, sym (c .before .before .before .before .is3 .ensures) ∙ c .before .before .before .if3 .left, sym (c .before .before .before .before .before .before .is2 .ensures) ∙ c .before .before .before .before .before .if2 .left, sym (c .before .before .before .before .before .before .before .before .is .ensures) ∙ c .before .before .before .before .before .before .before .if1 .left)
+returns-5 c =
+    simp (
+      c .deposit-return .ensures,
+      sym (c .before .before .is4 .ensures) ∙ c .before .if4 .left,
+      sym (c .before .before .before .before .is3 .ensures) ∙ c .before .before .before .if3 .left,
+      sym (c .before .before .before .before .before .before .is2 .ensures) ∙ c .before .before .before .before .before .if2 .left,
+      sym (c .before .before .before .before .before .before .before .before .is .ensures) ∙
+          c .before .before .before .before .before .before .before .if1 .left,
+    )
 
 pub own-change-spec : {M : Type 1} → statement M
 own-change-spec =

@@ -17,7 +17,7 @@ use Rattle.codec.proofs.check.Tie as tie
 fitting : (c : tie.Else1) → fitsOf (length (now (c .before .before .before .args .image))) ≡ true
 fitting c = sym (c .before .fits2 .ensures) ∙ not-false _ (c .if1 .left)
 
-ends : (c : tie.Else1) → (recordBytes ≤ length (now (c .before .before .before .args .image))) × (length (now (c .before .before .before .args .image)) ≤ longestImage) × (length (now (c .before .before .before .args .image)) % recordBytes ≡ 0)
+ends : (c : tie.Else1) → let l = length (now (c .before .before .before .args .image)) in (recordBytes ≤ l) × (l ≤ longestImage) × (l % recordBytes ≡ 0)
 ends c = fits-ends (length (now (c .before .before .before .args .image))) (fitting c)
 
 marks : (c : tie.After-both) → c .both .result ≡ marked (now (c .before .before .before .before .before .before .before .before .before .before .args .image))
@@ -47,16 +47,22 @@ sub-if3 c = let h = ends (c .before .before .before .before .before .before .bef
 returns-3 : tie.Need-returns-3
 unfolding checkOf
 returns-3 c =
-    let right : marked (now (c .before .before .before .before .before .before .before .before .before .before .before .before .before .args .image)) ≡ true = sym (marks (c .before .before .before)) ∙ not-false _ (c .before .before .if2 .left) in
-    let other : eqb (countIn (now (c .before .before .before .before .before .before .before .before .before .before .before .before .before .args .image))) (length (now (c .before .before .before .before .before .before .before .before .before .before .before .before .before .args .image)) / recordBytes - 1) ≡ false = ne-eqb _ _ (λ e. c .if3 .taken (c .before .count-in .ensures ∙ e)) in
-    simp (fitting (c .before .before .before .before .before .before .before .before .before .before), right, other, rule-kept, rule-broken)
+    let c₈ = c .before .before .before .before .before .before .before .before in
+    let a = c₈ .before .before .before .before .before .args in
+    let right : marked (now (a .image)) ≡ true = sym (marks (c .before .before .before)) ∙ not-false _ (c .before .before .if2 .left) in
+    let other : eqb (countIn (now (a .image))) (length (now (a .image)) / recordBytes - 1) ≡ false = ne-eqb _ _
+    (λ e. c .if3 .taken (c .before .count-in .ensures ∙ e)) in
+    simp (fitting (c₈ .before .before), right, other, rule-kept, rule-broken)
 
 returns-4 : tie.Need-returns-4
 unfolding checkOf
 returns-4 c =
-    let right : marked (now (c .before .before .before .before .before .before .before .before .before .before .before .before .before .args .image)) ≡ true = sym (marks (c .before .before .before)) ∙ not-false _ (c .before .before .if2 .left) in
-    let same : eqb (countIn (now (c .before .before .before .before .before .before .before .before .before .before .before .before .before .args .image))) (length (now (c .before .before .before .before .before .before .before .before .before .before .before .before .before .args .image)) / recordBytes - 1) ≡ true = eq-eqb _ _ (sym (c .before .count-in .ensures) ∙ c .if3 .left) in
-    simp (fitting (c .before .before .before .before .before .before .before .before .before .before), right, same, rule-kept)
+    let c₈ = c .before .before .before .before .before .before .before .before in
+    let a = c₈ .before .before .before .before .before .args in
+    let right : marked (now (a .image)) ≡ true = sym (marks (c .before .before .before)) ∙ not-false _ (c .before .before .if2 .left) in
+    let same : eqb (countIn (now (a .image))) (length (now (a .image)) / recordBytes - 1) ≡ true = eq-eqb _ _
+    (sym (c .before .count-in .ensures) ∙ c .if3 .left) in
+    simp (fitting (c₈ .before .before), right, same, rule-kept)
 
 pub check-spec : {M : Type 1} → statement M
 check-spec =

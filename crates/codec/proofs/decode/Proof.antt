@@ -13,7 +13,19 @@ returns c =
     let d = c .before .before .before in
     let e = d .before .before .before in
     let l = now (e .before .before .before .before .before .before .args .b) in
-    simp (c .two4 .ensures, d .two3 .ensures, d .before .four3 .ensures, d .before .before .four2 .ensures, e .four .ensures, e .before .two2 .ensures, e .before .before .two .ensures, ← from-bytes-one l 0, ← from-bytes-one l 1, ← from-bytes-one l 22, ← from-bytes-one l 23) (sym (ap fieldsRecord (unpack-at layout 0 l)))
+    simp (
+      c .two4 .ensures,
+      d .two3 .ensures,
+      d .before .four3 .ensures,
+      d .before .before .four2 .ensures,
+      e .four .ensures,
+      e .before .two2 .ensures,
+      e .before .before .two .ensures,
+      ← from-bytes-one l 0,
+      ← from-bytes-one l 1,
+      ← from-bytes-one l 22,
+      ← from-bytes-one l 23,
+    ) (sym (ap fieldsRecord (unpack-at layout 0 l)))
 
 pub decode-spec : {M : Type 1} → statement M
 decode-spec =

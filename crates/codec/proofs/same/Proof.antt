@@ -20,13 +20,15 @@ returns c = sym (eqList-length (now (c .before .args .a)) (now (c .before .args 
 
 returns-2 : tie.Need-returns-2 Inv-loop μ-loop
 returns-2 c =
+    let a = c .before .before .before .before .before .before .args in
     let l = c .before .before .before .before .loop in
-    sym (l .inv .2 ∙ eqList-stop (now (c .before .before .before .before .before .before .args .a)) (now (c .before .before .before .before .before .before .args .b)) (l .i) (omega arith) (omega arith) (c .if2 .taken))
+    sym (l .inv .2 ∙ eqList-stop (now (a .a)) (now (a .b)) (l .i) (omega arith) (omega arith) (c .if2 .taken))
 
 loop-again : tie.Need-loop-again Inv-loop μ-loop
 loop-again c =
+    let a = c .before .before .before .before .before .before .args in
     let l = c .before .before .before .before .loop in
-    (omega arith, omega arith, l .inv .2 ∙ eqList-step (now (c .before .before .before .before .before .before .args .a)) (now (c .before .before .before .before .before .before .args .b)) (l .i) (omega arith) (omega arith) (c .if2 .left))
+    (omega arith, omega arith, l .inv .2 ∙ eqList-step (now (a .a)) (now (a .b)) (l .i) (omega arith) (omega arith) (c .if2 .left))
 
 returns-3 : tie.Need-returns-3 Inv-loop μ-loop
 returns-3 c =

@@ -8,16 +8,21 @@ use borrow.Author.Tests.{le-ltb}
 use Rattle.saves.specs.Saves.{bytesOf}
 use Rattle.codec.specs.Records.{recordBytes}
 use Rattle.image_carry.specs.Carries.{nextOf}
-use Rattle.image_carry.proofs.Runs.{run-posted}
-use Rattle.image_carry.proofs.Carries.{image-most}
+use Rattle.image_carry.proofs.Carries.{run-posted, image-most}
 use Rattle.image_carry.proofs.too_short.Statement.{statement}
 use Rattle.image_carry.proofs.too_short.Tie as tie
 
 returns : tie.Need-returns
-returns c = sym (le-ltb (c .before .before .before .args .length) (bytesOf (nextOf (c .before .before .before .args .book) (now (c .before .before .before .args .run)))) (omega (arith, image-most (c .before .before .before .args .book) (now (c .before .before .before .args .run)), c .before .most-after .ensures .0)))
+returns c =
+    let a = c .before .before .before .args in
+    sym (le-ltb (a .length) (bytesOf (nextOf (a .book) (now (a .run))))
+    (omega (arith, image-most (a .book) (now (a .run)), c .before .most-after .ensures .0)))
 
 returns-2 : tie.Need-returns-2
-returns-2 c = ap (λ n. ltb (c .before .before .before .before .before .before .before .args .length) (recordBytes * (n + 1))) (c .entry-count .ensures .0) ∙ ap (λ b. ltb (c .before .before .before .before .before .before .before .args .length) (bytesOf b)) (run-posted (c .before .before .before .before .before .before .before .args .book) (now (c .before .before .before .before .before .before .before .args .run)) _ _ (c .before .before .replay .result) (c .before .before .replay .ensures) .0)
+returns-2 c =
+    let a = c .before .before .before .before .before .before .before .args in
+    ap (λ n. ltb (a .length) (recordBytes * (n + 1))) (c .entry-count .ensures .0) ∙ ap (λ b. ltb (a .length) (bytesOf b))
+    (run-posted (a .book) (now (a .run)) _ _ (c .before .before .replay .result) (c .before .before .replay .ensures) .0)
 
 pub too-short-spec : {M : Type 1} → statement M
 too-short-spec =

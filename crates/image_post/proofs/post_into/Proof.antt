@@ -9,29 +9,55 @@ use Rattle.image_post.proofs.post_into.Statement.{statement}
 use Rattle.image_post.proofs.post_into.Tie as tie
 
 returns : tie.Need-returns
-returns c = rw (c .refused .ensures) (post-17 (c .before .before .before .before .args .book) (now (c .before .before .before .before .args .entry)) (now (c .before .before .before .before .args .output)) (c .before .if1 .taken))
+returns c =
+    let a = c .before .before .before .before .args in
+    rw (c .refused .ensures) (post-17 (a .book) (now (a .entry)) (now (a .output)) (c .before .if1 .taken))
 
 returns-2 : tie.Need-returns-2
 unfolding postingReplyOf
 returns-2 c =
-    let reply = ap (λ x. x .reply) (c .before .before .before .before .post .ensures) ∙ ap (λ r. postOf (c .before .before .before .before .before .before .before .before .before .before .args .book) (r .raw) .reply) (c .before .before .before .before .before .before .record-in .ensures) in
-    rw (c .refused2 .ensures) (post-refused (c .before .before .before .before .before .before .before .before .before .before .args .book) (now (c .before .before .before .before .before .before .before .before .before .before .args .entry)) (now (c .before .before .before .before .before .before .before .before .before .before .args .output)) (c .before .before .answer .given .0 .0) (c .before .before .before .before .before .before .before .if1 .left) (sym (ap (λ x. x .refusal) reply) ∙ ap (λ a. postingReplyOf a .refusal) (c .before .before .answer .given .1)))
+    let c₈ = c .before .before .before .before .before .before .before .before in
+    let a = c₈ .before .before .args in
+    let reply = ap (λ x. x .reply) (c .before .before .before .before .post .ensures) ∙ ap (λ r. postOf (a .book) (r .raw) .reply)
+    (c .before .before .before .before .before .before .record-in .ensures) in
+    rw (c .refused2 .ensures) (post-refused (a .book) (now (a .entry)) (now (a .output)) (c .before .before .answer .given .0 .0)
+    (c .before .before .before .before .before .before .before .if1 .left)
+    (sym (ap (λ x. x .refusal) reply) ∙ ap (λ x. postingReplyOf x .refusal) (c .before .before .answer .given .1)))
 
 returns-3 : tie.Need-returns-3
 unfolding postingReplyOf saveReplyOf
 returns-3 c =
-    let reply = ap (λ x. x .reply) (c .before .before .before .before .before .before .before .before .before .before .before .before .post .ensures) ∙ ap (λ r. postOf (c .before .before .before .before .before .before .before .before .before .before .before .before .before .before .before .before .before .before .args .book) (r .raw) .reply) (c .before .before .before .before .before .before .before .before .before .before .before .before .before .before .record-in .ensures) in
-    let none = sym (ap (λ x. x .refusal) reply) ∙ ap (λ a. postingReplyOf a .refusal) (c .before .before .before .before .before .before .before .before .before .before .enum-told .given .1) in
-    let next = ap (λ x. x .book) (c .before .before .before .before .before .before .before .before .before .before .before .before .post .ensures) ∙ ap (λ r. postOf (c .before .before .before .before .before .before .before .before .before .before .before .before .before .before .before .before .before .before .args .book) (r .raw) .book) (c .before .before .before .before .before .before .before .before .before .before .before .before .before .before .record-in .ensures) in
-    rw (c .posting-given .ensures, c .before .reply .ensures, reply) (post-accepted (c .before .before .before .before .before .before .before .before .before .before .before .before .before .before .before .before .before .before .args .book) (c .before .before .before .before .before .before .before .before .before .before .before .before .post .result .book) (now (c .before .before .before .before .before .before .before .before .before .before .before .before .before .before .before .before .before .before .args .entry)) (now (c .before .before .before .before .before .before .before .before .before .before .before .before .before .before .before .before .before .before .args .output)) _ (c .before .before .before .bytes .given .0 .0) (c .before .before .before .before .before .before .before .before .before .before .before .before .before .before .before .if1 .left) none next (sym (ap saveReplyOf (c .before .before .before .bytes .given .1)) ∙ c .before .before .before .before .before .before .before .save .ensures .0) (c .before .before .before .before .before .before .before .save .ensures .1))
+    let c₈ = c .before .before .before .before .before .before .before .before in
+    let c₁₆ = c₈ .before .before .before .before .before .before .before .before in
+    let a = c₁₆ .before .before .args in
+    let reply = ap (λ x. x .reply) (c₈ .before .before .before .before .post .ensures) ∙ ap (λ r. postOf (a .book) (r .raw) .reply)
+    (c₈ .before .before .before .before .before .before .record-in .ensures) in
+    let none = sym (ap (λ x. x .refusal) reply) ∙ ap (λ x. postingReplyOf x .refusal) (c₈ .before .before .enum-told .given .1) in
+    let next = ap (λ x. x .book) (c₈ .before .before .before .before .post .ensures) ∙ ap (λ r. postOf (a .book) (r .raw) .book)
+    (c₈ .before .before .before .before .before .before .record-in .ensures) in
+    rw (c .posting-given .ensures, c .before .reply .ensures, reply)
+    (post-accepted (a .book) (c₈ .before .before .before .before .post .result .book) (now (a .entry)) (now (a .output)) _
+    (c .before .before .before .bytes .given .0 .0)
+    (c₈ .before .before .before .before .before .before .before .if1 .left) none next
+    (sym (ap saveReplyOf (c .before .before .before .bytes .given .1)) ∙ c .before .before .before .before .before .before .before .save .ensures .0)
+    (c .before .before .before .before .before .before .before .save .ensures .1))
 
 returns-4 : tie.Need-returns-4
 unfolding postingReplyOf saveReplyOf
 returns-4 c =
-    let reply = ap (λ x. x .reply) (c .before .before .before .before .before .before .before .before .before .before .before .post .ensures) ∙ ap (λ r. postOf (c .before .before .before .before .before .before .before .before .before .before .before .before .before .before .before .before .before .args .book) (r .raw) .reply) (c .before .before .before .before .before .before .before .before .before .before .before .before .before .record-in .ensures) in
-    let none = sym (ap (λ x. x .refusal) reply) ∙ ap (λ a. postingReplyOf a .refusal) (c .before .before .before .before .before .before .before .before .before .enum-told .given .1) in
-    let next = ap (λ x. x .book) (c .before .before .before .before .before .before .before .before .before .before .before .post .ensures) ∙ ap (λ r. postOf (c .before .before .before .before .before .before .before .before .before .before .before .before .before .before .before .before .before .args .book) (r .raw) .book) (c .before .before .before .before .before .before .before .before .before .before .before .before .before .record-in .ensures) in
-    rw (c .refused3 .ensures) (post-short (c .before .before .before .before .before .before .before .before .before .before .before .before .before .before .before .before .before .args .book) (c .before .before .before .before .before .before .before .before .before .before .before .post .result .book) (now (c .before .before .before .before .before .before .before .before .before .before .before .before .before .before .before .before .before .args .entry)) (now (c .before .before .before .before .before .before .before .before .before .before .before .before .before .before .before .before .before .args .output)) _ (c .before .before .refusal .given .0 .0) (c .before .before .before .before .before .before .before .before .before .before .before .before .before .before .if1 .left) none next (sym (ap saveReplyOf (c .before .before .refusal .given .1)) ∙ c .before .before .before .before .before .before .save .ensures .0) (c .before .before .before .before .before .before .save .ensures .1))
+    let c₈ = c .before .before .before .before .before .before .before .before in
+    let c₁₆ = c₈ .before .before .before .before .before .before .before .before in
+    let a = c₁₆ .before .args in
+    let reply = ap (λ x. x .reply) (c₈ .before .before .before .post .ensures) ∙ ap (λ r. postOf (a .book) (r .raw) .reply)
+    (c₈ .before .before .before .before .before .record-in .ensures) in
+    let none = sym (ap (λ x. x .refusal) reply) ∙ ap (λ x. postingReplyOf x .refusal) (c₈ .before .enum-told .given .1) in
+    let next = ap (λ x. x .book) (c₈ .before .before .before .post .ensures) ∙ ap (λ r. postOf (a .book) (r .raw) .book)
+    (c₈ .before .before .before .before .before .record-in .ensures) in
+    rw (c .refused3 .ensures) (post-short (a .book) (c₈ .before .before .before .post .result .book) (now (a .entry)) (now (a .output)) _
+    (c .before .before .refusal .given .0 .0)
+    (c₈ .before .before .before .before .before .before .if1 .left) none next
+    (sym (ap saveReplyOf (c .before .before .refusal .given .1)) ∙ c .before .before .before .before .before .before .save .ensures .0)
+    (c .before .before .before .before .before .before .save .ensures .1))
 
 pub post-into-spec : {M : Type 1} → statement M
 post-into-spec =

@@ -27,8 +27,15 @@ ended c = appended (newline ∷ []) (c .before .before .before .before .loop .te
 inside : (c : tie.After-put2 Inv-loop μ-loop) → c .put2 .result ≤ longestLine
 inside c = omega (arith, ended c .end)
 
-whole : (c : tie.After-put2 Inv-loop μ-loop) → take (c .put2 .result) (c .put2 .last .0) ≡ lineOf (now (c .before .before .before .before .before .before .before .before .before .before .before .args .word)) (now (c .before .before .before .before .before .before .before .before .before .before .before .args .numbers))
-whole c = ended c .front ∙ finished (now (c .before .before .before .before .before .before .before .before .before .before .before .args .word)) (now (c .before .before .before .before .before .before .before .before .before .before .before .args .numbers)) (take (c .before .before .before .before .loop .n) (c .before .before .before .before .loop .text)) (c .before .before .before .before .loop .i) (omega arith) (c .before .before .before .before .loop .inv .3)
+whole : (c : tie.After-put2 Inv-loop μ-loop) → take (c .put2 .result)
+    (c .put2 .last .0) ≡ lineOf (now (c .before .before .before .before .before .before .before .before .before .before .before .args .word))
+    (now (c .before .before .before .before .before .before .before .before .before .before .before .args .numbers))
+whole c =
+    let c₈ = c .before .before .before .before .before .before .before .before in
+    let a = c₈ .before .before .before .args in
+    ended c .front ∙ finished (now (a .word)) (now (a .numbers))
+    (take (c .before .before .before .before .loop .n) (c .before .before .before .before .loop .text)) (c .before .before .before .before .loop .i)
+    (omega arith) (c .before .before .before .before .loop .inv .3)
 
 loop-holds : tie.Need-loop-holds Inv-loop μ-loop
 unfolding lineOf
@@ -37,12 +44,17 @@ loop-holds c =
     (omega arith, search needs, omega (arith, a .end), rw (a .front))
 
 loop-again : tie.Need-loop-again Inv-loop μ-loop
-loop-again c = (
-  omega arith,
-  search needs,
-  omega (arith, c .before .number .ensures .0),
-  next-number (now (c .before .before .before .before .before .before .before .before .before .before .before .before .args .word)) (now (c .before .before .before .before .before .before .before .before .before .before .before .before .args .numbers)) (take (c .before .before .before .before .before .loop .n) (c .before .before .before .before .before .loop .text)) _ (c .before .before .before .before .before .loop .i) (omega arith) (c .before .before .before .before .before .loop .inv .3) (c .before .number .ensures .1),
-)
+loop-again c =
+    let c₈ = c .before .before .before .before .before .before .before .before in
+    let a = c₈ .before .before .before .before .args in (
+      omega arith,
+      search needs,
+      omega (arith, c .before .number .ensures .0),
+      next-number (now (a .word)) (now (a .numbers))
+          (take (c .before .before .before .before .before .loop .n) (c .before .before .before .before .before .loop .text)) _
+          (c .before .before .before .before .before .loop .i) (omega arith) (c .before .before .before .before .before .loop .inv .3)
+          (c .before .number .ensures .1),
+    )
 
 array-share-prefix-text : tie.Need-array-share-prefix-text Inv-loop μ-loop
 array-share-prefix-text c = omega (arith, inside (c .before .before))
@@ -52,8 +64,15 @@ slice-aggregate-put-4 c = sym (length-take-le _ _ (omega (arith, inside (c .befo
 
 returns : tie.Need-returns Inv-loop μ-loop
 returns c =
-    let l = inside (c .before .before .before .before .before .before) in
-    (rw (whole (c .before .before .before .before .before .before)) at (c .before .before .put3 .ensures), rw (← whole (c .before .before .before .before .before .before)) (omega (arith, length-take-le (c .before .before .before .before .before .before .put2 .result) (c .before .before .before .before .before .before .put2 .last .0) (omega arith))))
+    let l = inside (c .before .before .before .before .before .before) in (
+      rw (whole (c .before .before .before .before .before .before)) at (c .before .before .put3 .ensures),
+      rw (← whole (c .before .before .before .before .before .before))
+          (omega (
+            arith,
+            length-take-le (c .before .before .before .before .before .before .put2 .result)
+                (c .before .before .before .before .before .before .put2 .last .0) (omega arith),
+          )),
+    )
 
 pub line-spec : {M : Type 1} → statement M
 line-spec =

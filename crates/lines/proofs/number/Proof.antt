@@ -12,10 +12,18 @@ use Rattle.lines.proofs.number.Tie as tie
 
 returns : tie.Need-returns
 returns c =
-    let s = shown (c .before .before .before .before .before .before .before .before .before .before .before .before .before .args .n) (c .before .before .before .before .before .before .before .before .before .before .decimal .result) (c .before .before .before .before .before .before .before .before .before .before .decimal .last .1 .0) (omega arith) (c .before .before .before .before .before .before .before .before .before .before .decimal .ensures .1) in
-    let k = c .before .before .before .before .before .before .before .before .before .before .decimal .ensures .0 .1 in
-    let a = appended (space ∷ []) (now (c .before .before .before .before .before .before .before .before .before .before .before .before .before .args .text)) (c .before .before .before .before .before .before .before .put .last .0) (c .before .before .before .before .before .before .before .before .before .before .before .before .before .args .at) (c .before .before .before .before .before .before .before .put .result) (omega arith) (c .before .before .before .before .before .before .before .put .ensures) in
-    let b = appended (take (c .before .before .before .before .before .before .before .before .before .before .decimal .result) (c .before .before .before .before .before .before .before .before .before .before .decimal .last .1 .0)) (c .before .before .before .before .before .before .before .put .last .0) (c .before .before .put2 .last .0) (c .before .before .before .before .before .before .before .put .result) (c .before .before .put2 .result) (omega (arith, a .end)) (c .before .before .put2 .ensures) in
+    let c₈ = c .before .before .before .before .before .before .before .before in
+    let s = shown (c₈ .before .before .before .before .before .args .n) (c₈ .before .before .decimal .result)
+    (c₈ .before .before .decimal .last .1 .0) (omega arith) (c₈ .before .before .decimal .ensures .1) in
+    let k = c₈ .before .before .decimal .ensures .0 .1 in
+    let a = appended (space ∷ []) (now (c₈ .before .before .before .before .before .args .text))
+    (c .before .before .before .before .before .before .before .put .last .0) (c₈ .before .before .before .before .before .args .at)
+    (c .before .before .before .before .before .before .before .put .result) (omega arith)
+    (c .before .before .before .before .before .before .before .put .ensures) in
+    let b = appended (take (c₈ .before .before .decimal .result) (c₈ .before .before .decimal .last .1 .0))
+    (c .before .before .before .before .before .before .before .put .last .0) (c .before .before .put2 .last .0)
+    (c .before .before .before .before .before .before .before .put .result) (c .before .before .put2 .result) (omega (arith, a .end))
+    (c .before .before .put2 .ensures) in
     (omega (arith, a .end, b .end), b .front ∙ (rw (a .front, append-assoc, s .1)))
 
 pub number-spec : {M : Type 1} → statement M

@@ -8,8 +8,7 @@ use Rattle.entries.specs.declared.refusals.Check.the-variants.{Passed}
 use Rattle.codec.specs.Headers.{checkOf}
 use Rattle.codec.proofs.Headers.{checked}
 use Rattle.codec.specs.Records.{recordBytes}
-use Rattle.loads.proofs.Loads.{load-refused}
-use Rattle.loads.proofs.Replayed.{replay-loads}
+use Rattle.loads.proofs.Loads.{load-refused, replay-loads}
 use Rattle.loads.proofs.load.Statement.{statement}
 use Rattle.loads.proofs.load.Tie as tie
 
@@ -22,7 +21,8 @@ long c = checked (now (c .before .before .before .before .args .image)) (passed 
 returns : tie.Need-returns
 returns c =
     c .refused .ensures ∙
-    sym (load-refused (now (c .before .before .before .before .before .before .args .image)) (c .before .before .refusal .given .0 .0) (sym (c .before .before .before .before .check .ensures) ∙ c .before .before .refusal .given .1))
+    sym (load-refused (now (c .before .before .before .before .before .before .args .image)) (c .before .before .refusal .given .0 .0)
+    (sym (c .before .before .before .before .check .ensures) ∙ c .before .before .refusal .given .1))
 
 sub-replay : tie.Need-sub-replay
 sub-replay c = omega (arith, long (c .before))
@@ -32,8 +32,10 @@ part-replay-start c = omega (arith, long (c .before))
 
 returns-2 : tie.Need-returns-2
 returns-2 c =
+    let c₈ = c .before .before .before .before .before .before .before .before in
     ap (λ p. p .loaded) (c .before .replay .ensures) ∙
-    replay-loads (now (c .before .before .before .before .before .before .before .before .before .args .image)) _ _ (passed (c .before .before .before .before .before)) (c .before .before .before .before .fresh .ensures)
+    replay-loads (now (c₈ .before .args .image)) _ _ (passed (c .before .before .before .before .before))
+    (c .before .before .before .before .fresh .ensures)
 
 pub load-spec : {M : Type 1} → statement M
 load-spec =

@@ -36,28 +36,45 @@ loop-less c = omega arith
 
 loop-again : tie.Need-loop-again Inv-loop μ-loop
 loop-again c =
-    let l = c .before .before .before .before .before .before .before .before .before .before .before .loop in
+    let c₈ = c .before .before .before .before .before .before .before .before in
+    let a = c₈ .before .before .before .before .before .args in
+    let l = c₈ .before .before .before .loop in
     let line = statementLine (l .account + 1) (c .before .before .before .before .reply .result) in
     let w = c .before .before .account-line in
     let put : written (w .last .0) (w .result) ≡ writtenAt line (l .at) (l .text) = w .ensures .0 in
-    let room : l .at + length line ≤ length (l .text) = omega (arith, w .ensures .1) in
-    (omega arith, search needs, omega (arith, appended line (l .text) (w .last .0) (l .at) (w .result) room put .end, w .ensures .1), turn-more (c .before .before .before .before .before .before .before .before .before .before .before .before .before .args .t1) (l .account) (c .before .before .before .before .before .before .before .before .before .slot .result) (c .before .before .before .before .before .before .before .before .before .slot .ensures) (c .before .before .before .before .reply .result) (now (c .before .before .before .before .before .before .before .before .before .before .before .before .before .args .text)) (l .text) (w .last .0) (l .at) (w .result) (c .before .before .before .before .before .before .if1 .taken) (c .before .before .before .before .reply .ensures ∙ c .before .before .before .before .before .statement .ensures) room (search needs) (l .inv .3) put)
+    let room : l .at + length line ≤ length (l .text) = omega (arith, w .ensures .1) in (
+      omega arith,
+      search needs,
+      omega (arith, appended line (l .text) (w .last .0) (l .at) (w .result) room put .end, w .ensures .1),
+      turn-more (a .t1) (l .account) (c₈ .before .slot .result) (c₈ .before .slot .ensures) (c .before .before .before .before .reply .result)
+          (now (a .text)) (l .text) (w .last .0) (l .at) (w .result) (c .before .before .before .before .before .before .if1 .taken)
+          (c .before .before .before .before .reply .ensures ∙ c .before .before .before .before .before .statement .ensures) room (search needs)
+          (l .inv .3) put,
+    )
 
 loop-less-2 : tie.Need-loop-less-2 Inv-loop μ-loop
 loop-less-2 c = omega arith
 
 loop-again-2 : tie.Need-loop-again-2 Inv-loop μ-loop
 loop-again-2 c =
-    let l = c .before .before .before .before .before .loop in
-    (omega arith, omega arith, omega arith, turn-same (c .before .before .before .before .before .before .before .args .t1) (l .account) (c .before .before .before .slot .result) (c .before .before .before .slot .ensures) (now (c .before .before .before .before .before .before .before .args .text)) (l .text) (l .at) (c .if1 .left) (l .inv .3))
+    let a = c .before .before .before .before .before .before .before .args in
+    let l = c .before .before .before .before .before .loop in (
+      omega arith,
+      omega arith,
+      omega arith,
+      turn-same (a .t1) (l .account) (c .before .before .before .slot .result)
+          (c .before .before .before .slot .ensures) (now (a .text)) (l .text) (l .at) (c .if1 .left) (l .inv .3),
+    )
 
 returns : tie.Need-returns Inv-loop μ-loop
 returns c =
+    let a = c .before .before .before .before .before .before .before .args in
     let l = c .before .before .before .before .before .loop in
-    let b = c .before .before .before .before .before .before .before .args .t1 in
+    let b = a .t1 in
     let w = c .before .before .end-line in
     let all : l .account ≡ accountsMost = omega arith in
-    let k = holds-more (accountLines b accountsMost) (endLine (b .count)) (now (c .before .before .before .before .before .before .before .args .text)) (l .text) (w .last .0) (l .at) (w .result) (omega (arith, w .ensures .1)) (search needs) (rw all at (l .inv .3)) (w .ensures .0) in
+    let k = holds-more (accountLines b accountsMost) (endLine (b .count)) (now (a .text)) (l .text) (w .last .0) (l .at) (w .result)
+    (omega (arith, w .ensures .1)) (search needs) (rw all at (l .inv .3)) (w .ensures .0) in
     (holds-length _ _ _ _ k, holds-all _ _ _ _ k)
 
 pub print-book-spec : {M : Type 1} → statement M

@@ -12,10 +12,12 @@ returns c = rw (printed-book (c .before .before .before .before .before .args .l
 
 returns-2 : tie.Need-returns-2
 returns-2 c =
-    let t = now (c .before .before .before .before .before .before .args .text) in
+    let a = c .before .before .before .before .before .before .args in
+    let t = now (a .text) in
     let w = c .refused-line in
     let k = holds-more [] _ t t (w .last .0) 0 (w .result) (omega (arith, w .ensures .1)) (search needs) (holds-none t) (w .ensures .0) in
-    rw (printed-refused (c .before .before .before .before .before .before .args .loaded) _ _ (c .before .before .before .before .answer .given .1), ← c .before .number .ensures) (holds-length _ _ _ _ k, holds-all _ _ _ _ k)
+    rw (printed-refused (a .loaded) _ _ (c .before .before .before .before .answer .given .1), ← c .before .number .ensures)
+    (holds-length _ _ _ _ k, holds-all _ _ _ _ k)
 
 pub printed-spec : {M : Type 1} → statement M
 printed-spec =

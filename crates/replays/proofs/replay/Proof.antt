@@ -1,7 +1,8 @@
 use borrow.Author.Needs.{needs}
-use Prim.Native.Nat.{_+_, _-_, _/_, _<_, _≤_}
-use mathlib.Core.Bool.{false, not, _&&_}
-use mathlib.Core.Path.{_≡_, refl, sym, ap, _∙_}
+use Prim.Native.Nat.{ℕ, _+_, _-_, _/_, _<_, _≤_}
+use mathlib.Core.Bool.{Bool, true, false, not, _&&_}
+use mathlib.Core.List.{List}
+use mathlib.Core.Path.{_≡_, refl, sym, ap, subst, _∙_}
 use native.Mathlib.Nat.{min-eq-left}
 use native.Mathlib.Omega.{arith}
 use lib.ListN.{length, getD, set, length-set}
@@ -13,9 +14,15 @@ use Rattle.entries.proofs.RefusalsLaws.{refusal-above}
 use Rattle.rules.specs.Accounts.{noAccount}
 use Rattle.changes.specs.Changes.{decisionNumber}
 use Rattle.changes.specs.declared.Decision.the-variants.{Accepted}
+use Rattle.changes.specs.declared.Found.{Found}
+use Rattle.changes.specs.declared.Change.{Change}
+use Rattle.entries.specs.declared.data.Entry.{Entry}
+use Rattle.codec.specs.declared.Record.{Record}
+use Rattle.book.specs.Search.{goesOnOf}
+use Rattle.book.specs.declared.Book.{Book}
 use Rattle.codec.specs.Records.{recordBytes, recordIn}
-use Rattle.book.specs.Fresh.{entriesMost}
-use Rattle.book.specs.Posting.{accountAt, lookupOf, decisionOf, postOf}
+use Rattle.book.specs.Fresh.{accountsMost, entriesMost}
+use Rattle.book.specs.Posting.{accountAt, lookupOf, decisionOf, entriesRewritten, postOf}
 use Rattle.book.proofs.Chain.{slot-inside, place-inside}
 use Rattle.book.proofs.SearchLaws.{findsOf, begins, nearer, past, decided, rewrites}
 use Rattle.book.proofs.Posting.{room, post-refused, rewrites-at, post-accepted}
@@ -38,55 +45,188 @@ Inv-loop records image results₀ book₀ all i₀ results book i =
 abbrev μ-loop : tie.MeasureT-loop
 μ-loop records image results₀ book₀ all i₀ results book i = length records / recordBytes - i
 
-before-end : (c : tie.In-loop Inv-loop2 μ-loop2 Inv-loop μ-loop) → c .before .loop .i < length (now (c .before .before .before .before .args .records)) / recordBytes
+-- THE STATES that the needs speak of: in a turn; with its record read; in the search or behind it; after the decision; where the record
+-- ends nothing; where its entry is accepted; where it is stored
+abbrev Turn : Type 0
+Turn = tie.In-loop Inv-loop2 μ-loop2 Inv-loop μ-loop
+
+abbrev Read : Type 0
+Read = tie.After-record-in Inv-loop2 μ-loop2 Inv-loop μ-loop
+
+abbrev Searched : Type 0
+Searched = tie.At-loop2 Inv-loop2 μ-loop2 Inv-loop μ-loop
+
+abbrev Decided : Type 0
+Decided = tie.After-decision Inv-loop2 μ-loop2 Inv-loop μ-loop
+
+abbrev Passed : Type 0
+Passed = tie.After-enum-told Inv-loop2 μ-loop2 Inv-loop μ-loop
+
+abbrev Taken : Type 0
+Taken = tie.After-decision2 Inv-loop2 μ-loop2 Inv-loop μ-loop
+
+abbrev Stored : Type 0
+Stored = tie.After-after Inv-loop2 μ-loop2 Inv-loop μ-loop
+
+-- the way back, and what is known there
+abbrev image : Turn → Bool
+image c = c .before .before .before .before .args .image
+
+abbrev bytes : Turn → List ℕ
+bytes c = now (c .before .before .before .before .args .records)
+
+abbrev index : Turn → ℕ
+index c = c .before .loop .i
+
+abbrev book : Turn → Book
+book c = c .before .loop .book
+
+abbrev turn : Read → Turn
+turn c = c .before .before
+
+abbrev given : Read → Record
+given c = c .record-in .result
+
+abbrev read : Searched → Read
+read c = c .before .before .before .before .before .before
+
+abbrev placed : Decided → tie.After-place2 Inv-loop2 μ-loop2 Inv-loop μ-loop
+placed c = c .before .before
+
+abbrev searched : Decided → Searched
+searched c = placed c .before .before .before
+
+abbrev decided-on : Passed → Decided
+decided-on c = c .before .before .before .before .before .before .before .before .before
+
+abbrev judged : Taken → Decided
+judged c = decided-on (c .before .before)
+
+abbrev change : Taken → Change
+change c = c .decision2 .given .0 .0
+
+abbrev taken : Stored → Taken
+taken c = c .before .before .before .before
+
+before-end : (c : Turn) → index c < length (bytes c) / recordBytes
 before-end c = omega arith
 
-record-is : (c : tie.After-record-in Inv-loop2 μ-loop2 Inv-loop μ-loop) → c .record-in .result ≡ recordIn (now (c .before .before .before .before .before .before .args .records)) (c .before .before .before .loop .i)
-record-is c = c .record-in .ensures ∙ record-part (now (c .before .before .before .before .before .before .args .records)) (c .before .before .before .loop .i)
+record-is : (c : Read) → given c ≡ recordIn (bytes (turn c)) (index (turn c))
+record-is c = c .record-in .ensures ∙ record-part (bytes (turn c)) (index (turn c))
+
+-- the search goes on in its loop, and is over behind it
+searches-on : (c : tie.Then1 Inv-loop2 μ-loop2 Inv-loop μ-loop) → goesOnOf (c .before .before .loop2 .search) ≡ true
+searches-on c = sym (c .before .goes-on .ensures) ∙ c .if1 .taken
+
+over : (c : tie.Else1 Inv-loop2 μ-loop2 Inv-loop μ-loop) → goesOnOf (c .before .before .loop2 .search) ≡ false
+over c = sym (c .before .goes-on .ensures) ∙ c .if1 .left
 
 -- what `decision` gives is the decision on the record's entry
-decision-is : (c : tie.After-decision Inv-loop2 μ-loop2 Inv-loop μ-loop) → c .decision .result ≡ decisionOf (c .before .before .before .before .before .before .before .before .before .before .before .before .before .before .loop .book) (c .before .before .before .before .before .before .before .before .before .before .before .record-in .result .raw)
+decision-is : (c : Decided) → let r = read (searched c) in c .decision .result ≡ decisionOf (book (turn r)) (given r .raw)
 decision-is c =
-    decided (c .before .before .before .before .before .before .before .before .before .before .before .before .before .before .loop .book) (c .before .before .before .before .before .before .before .before .before .before .before .record-in .result .raw) (c .before .before .before .before .before .loop2 .search) _ _ _ (c .before .before .before .before .before .before .before .before .slot .ensures) (c .before .before .before .before .before .loop2 .inv)
-    (sym (c .before .before .before .before .goes-on .ensures) ∙ c .before .before .before .if1 .left) (c .before .before .place2 .ensures) (c .decision .ensures)
+    let s = searched c in
+    let r = read s in
+    decided (book (turn r)) (given r .raw) (s .loop2 .search) _ _ _ (s .before .before .before .slot .ensures) (s .loop2 .inv) (over (placed c .before)) (placed c .place2 .ensures)
+    (c .decision .ensures)
 
-number-is : (c : tie.After-refusal Inv-loop2 μ-loop2 Inv-loop μ-loop) → c .refusal .result ≡ postOf (c .before .before .before .before .before .before .before .before .before .before .before .before .before .before .before .before .before .loop .book) (recordIn (now (c .before .before .before .before .before .before .before .before .before .before .before .before .before .before .before .before .before .before .before .before .args .records)) (c .before .before .before .before .before .before .before .before .before .before .before .before .before .before .before .before .before .loop .i) .raw) .reply .refusal
+number-is : (c : tie.After-refusal Inv-loop2 μ-loop2 Inv-loop μ-loop) → let t = turn (read (searched (c .before .before .before))) in
+    c .refusal .result ≡ postOf (book t) (recordIn (bytes t) (index t) .raw) .reply .refusal
 number-is c =
-    c .refusal .ensures ∙ ap decisionNumber (decision-is (c .before .before .before)) ∙ decision-number (c .before .before .before .before .before .before .before .before .before .before .before .before .before .before .before .before .before .loop .book) (c .before .before .before .before .before .before .before .before .before .before .before .before .before .before .record-in .result .raw) ∙
-    ap (λ r. postOf (c .before .before .before .before .before .before .before .before .before .before .before .before .before .before .before .before .before .loop .book) (r .raw) .reply .refusal) (record-is (c .before .before .before .before .before .before .before .before .before .before .before .before .before .before))
+    let r = read (searched (c .before .before .before)) in
+    let b = book (turn r) in
+    c .refusal .ensures ∙ ap decisionNumber (decision-is (c .before .before .before)) ∙ decision-number b (given r .raw) ∙ ap (λ q. postOf b (q .raw) .reply .refusal) (record-is r)
 
 -- what ends an image at this record
-end-is : (c : tie.After-stop Inv-loop2 μ-loop2 Inv-loop μ-loop) → c .stop .result ≡ stopOf (decisionOf (c .before .before .before .before .before .before .before .before .before .before .before .before .before .before .before .before .before .before .before .before .before .loop .book) (c .before .before .before .before .before .before .before .before .before .before .before .before .before .before .before .before .before .before .record-in .result .raw)) (c .before .before .before .before .before .before .before .before .before .before .before .before .before .before .before .before .before .before .before .before .before .before .before .before .args .image) (c .before .before .before .before .before .before .before .before .before .before .before .before .before .before .before .before .before .before .record-in .result .next) (accountAt (c .before .before .before .before .before .before .before .before .before .before .before .before .before .before .before .before .before .before .before .before .before .loop .book) (c .before .before .before .before .before .before .before .before .before .before .before .before .before .before .before .before .before .before .record-in .result .raw .account) .newest)
+end-is : (c : tie.After-stop Inv-loop2 μ-loop2 Inv-loop μ-loop) → let r = read (searched (c .before .before .before .before .before .before .before)) in let b = book (turn r) in
+    c .stop .result ≡ stopOf (decisionOf b (given r .raw)) (image (turn r)) (given r .next) (accountAt b (given r .raw .account) .newest)
 end-is c =
+    let s = searched (c .before .before .before .before .before .before .before) in
+    let r = read s in
+    let b = book (turn r) in
     c .stop .ensures ∙
-    ap (λ o. stopOf o (c .before .before .before .before .before .before .before .before .before .before .before .before .before .before .before .before .before .before .before .before .before .before .before .before .args .image) (c .before .before .before .before .before .before .before .before .before .before .before .before .before .before .before .before .before .before .record-in .result .next) (getD (c .before .before .before .before .before .before .before .before .before .before .before .before .before .before .before .before .before .before .before .before .before .loop .book .accounts) (c .before .before .before .before .before .before .before .before .before .before .before .before .before .before .before .slot .result) noAccount .newest)) (decision-is (c .before .before .before .before .before .before .before)) ∙
-    ap (λ a. stopOf (decisionOf (c .before .before .before .before .before .before .before .before .before .before .before .before .before .before .before .before .before .before .before .before .before .loop .book) (c .before .before .before .before .before .before .before .before .before .before .before .before .before .before .before .before .before .before .record-in .result .raw)) (c .before .before .before .before .before .before .before .before .before .before .before .before .before .before .before .before .before .before .before .before .before .before .before .before .args .image) (c .before .before .before .before .before .before .before .before .before .before .before .before .before .before .before .before .before .before .record-in .result .next) (getD (c .before .before .before .before .before .before .before .before .before .before .before .before .before .before .before .before .before .before .before .before .before .loop .book .accounts) a noAccount .newest)) (c .before .before .before .before .before .before .before .before .before .before .before .before .before .before .before .slot .ensures)
+    ap (λ o. stopOf o (image (turn r)) (given r .next) (getD (b .accounts) (s .before .before .before .slot .result) noAccount .newest))
+    (decision-is (c .before .before .before .before .before .before .before)) ∙
+    ap (λ a. stopOf (decisionOf b (given r .raw)) (image (turn r)) (given r .next) (getD (b .accounts) a noAccount .newest))
+    (s .before .before .before .slot .ensures)
 
-goes-on : (c : tie.After-enum-told Inv-loop2 μ-loop2 Inv-loop μ-loop) → c .before .before .before .before .before .before .before .before .before .before .before .before .before .before .before .before .before .before .before .before .before .before .before .before .before .before .args .image && not (eqb (recordRefusal (c .before .before .before .before .before .before .before .before .before .before .before .before .before .before .before .before .before .before .before .before .before .before .before .loop .book) (recordIn (now (c .before .before .before .before .before .before .before .before .before .before .before .before .before .before .before .before .before .before .before .before .before .before .before .before .before .before .args .records)) (c .before .before .before .before .before .before .before .before .before .before .before .before .before .before .before .before .before .before .before .before .before .before .before .loop .i))) 0) ≡ false
+goes-on : (c : Passed) → let t = turn (read (searched (decided-on c))) in
+    image t && not (eqb (recordRefusal (book t) (recordIn (bytes t) (index t))) 0) ≡ false
 goes-on c =
-    rw (record-is (c .before .before .before .before .before .before .before .before .before .before .before .before .before .before .before .before .before .before .before .before)) at (end-passed (c .before .before .before .before .before .before .before .before .before .before .before .before .before .before .before .before .before .before .before .before .before .before .before .before .before .before .args .image) (c .before .before .before .before .before .before .before .before .before .before .before .before .before .before .before .before .before .before .before .before .before .before .before .loop .book) (c .before .before .before .before .before .before .before .before .before .before .before .before .before .before .before .before .before .before .before .before .record-in .result) (sym (end-is (c .before .before)) ∙ c .enum-told .given .1))
+    let r = read (searched (decided-on c)) in
+    let t = turn r in
+    subst (λ q. image t && not (eqb (recordRefusal (book t) q) 0) ≡ false) (record-is r)
+    (end-passed (image t) (book t) (given r) (sym (end-is (c .before .before)) ∙ c .enum-told .given .1))
 
-accepted : (c : tie.After-decision2 Inv-loop2 μ-loop2 Inv-loop μ-loop) → decisionOf (c .before .before .before .before .before .before .before .before .before .before .before .before .before .before .before .before .before .before .before .before .before .before .before .before .before .loop .book) (c .before .before .before .before .before .before .before .before .before .before .before .before .before .before .before .before .before .before .before .before .before .before .record-in .result .raw) ≡ Accepted (c .decision2 .given .0 .0)
-accepted c = sym (decision-is (c .before .before .before .before .before .before .before .before .before .before .before)) ∙ c .decision2 .given .1
+-- an accepted entry, and its number
+accepted : (c : Taken) → let r = read (searched (judged c)) in decisionOf (book (turn r)) (given r .raw) ≡ Accepted (change c)
+accepted c = sym (decision-is (judged c)) ∙ c .decision2 .given .1
 
-not-full : (c : tie.After-decision2 Inv-loop2 μ-loop2 Inv-loop μ-loop) → c .before .before .before .before .before .before .before .before .before .before .before .before .before .before .before .before .before .before .before .before .before .before .before .before .before .loop .book .count < entriesMost
-not-full c = room (c .before .before .before .before .before .before .before .before .before .before .before .before .before .before .before .before .before .before .before .before .before .before .before .before .before .loop .book) (c .before .before .before .before .before .before .before .before .before .before .before .before .before .before .before .before .before .before .before .before .before .before .record-in .result .raw) (c .decision2 .given .0 .0) (accepted c)
+not-full : (c : Taken) → book (turn (read (searched (judged c)))) .count < entriesMost
+not-full c = let r = read (searched (judged c)) in room (book (turn r)) (given r .raw) (change c) (accepted c)
 
-next-number : (c : tie.After-decision2 Inv-loop2 μ-loop2 Inv-loop μ-loop) → c .before .before .before .before .before .before .before .before .before .before .one-more .result ≡ c .before .before .before .before .before .before .before .before .before .before .before .before .before .before .before .before .before .before .before .before .before .before .before .before .before .loop .book .count + 1
+next-number : (c : Taken) → c .before .before .before .before .before .before .before .before .before .before .one-more .result ≡ book (turn (read (searched (judged c)))) .count + 1
 next-number c =
     let h = not-full c in
     c .before .before .before .before .before .before .before .before .before .before .one-more .ensures ∙ min-eq-left (omega arith)
 
-rewritten-is : (c : tie.After-named-at Inv-loop2 μ-loop2 Inv-loop μ-loop) → c .before .before .before .before .before .before .before .before .before .before .before .before .before .before .before .before .before .before .before .place2 .result ≡ c .named-at .given .0 .0
+-- the entry that is rewritten is the one that the search found
+rewritten-is : (c : tie.After-named-at Inv-loop2 μ-loop2 Inv-loop μ-loop) → placed (judged (taken (c .before .before))) .place2 .result ≡ c .named-at .given .0 .0
 rewritten-is c =
-    rewrites (c .before .before .before .before .before .before .before .before .before .before .before .before .before .before .before .before .before .before .before .before .before .before .before .before .before .before .before .before .before .before .before .loop .book) (c .before .before .before .before .before .before .before .before .before .before .before .before .before .before .before .before .before .before .before .before .before .before .before .before .before .before .before .before .record-in .result .raw) (c .before .before .before .before .before .before .before .before .before .before .before .before .before .before .before .before .before .before .before .before .before .before .loop2 .search) _ _ (c .before .before .before .before .before .before .decision2 .given .0 .0) (c .before .before .before .before .before .before .before .before .before .before .before .before .before .before .before .before .before .before .before .before .before .before .loop2 .inv)
-    (sym (c .before .before .before .before .before .before .before .before .before .before .before .before .before .before .before .before .before .before .before .before .before .goes-on .ensures) ∙ c .before .before .before .before .before .before .before .before .before .before .before .before .before .before .before .before .before .before .before .before .if1 .left) (c .before .before .before .before .before .before .before .before .before .before .before .before .before .before .before .before .before .before .before .place2 .ensures) (accepted (c .before .before .before .before .before .before)) (c .named-at .given .1)
+    let t = taken (c .before .before) in
+    let d = judged t in
+    let s = searched d in
+    let r = read s in
+    rewrites (book (turn r)) (given r .raw) (s .loop2 .search) _ _ (change t) (s .loop2 .inv) (over (placed d .before)) (placed d .place2 .ensures) (accepted t)
+    (c .named-at .given .1)
 
 inside : (c : tie.After-named-at Inv-loop2 μ-loop2 Inv-loop μ-loop) → c .named-at .given .0 .0 < entriesMost
-inside c = omega (arith, rewritten-is c, c .before .before .before .before .before .before .before .before .before .before .before .before .before .before .before .before .before .before .before .place2 .ensures, place-inside (c .before .before .before .before .before .before .before .before .before .before .before .before .before .before .before .before .before .before .before .before .before .before .loop2 .search .at))
+inside c =
+    let d = judged (taken (c .before .before)) in
+    omega (arith, rewritten-is c, placed d .place2 .ensures, place-inside (searched d .loop2 .search .at))
+
+-- the entries with the new one
+abbrev joined : Stored → List Entry
+joined c = let b = book (turn (read (searched (judged (taken c))))) in set (b .entries) (b .count) (c .before .before .entry3 .result)
+
+-- what is stored, with these entries, is the posting's book
+abbrev bookWith : Stored → List Entry → Book
+bookWith c next =
+    let s = searched (judged (taken c)) in
+    record {
+      accounts = set (book (turn (read s)) .accounts) (s .before .before .before .slot .result) (c .before .with-newest .result);
+      entries = next;
+      count = taken c .before .before .before .before .before .before .before .before .before .before .one-more .result;
+      last = c .after .result;
+    }
+
+stored : (c : Stored) (f : Found) (next : List Entry) → let t = taken c in let r = read (searched (judged t)) in let b = book (turn r) in
+    change t .«named_at» ≡ f → next ≡ entriesRewritten (b .entries) f (change t .«named_data») (joined c) → bookWith c next ≡ postOf b (given r .raw) .book
+stored c f next names rewritten =
+    let t = taken c in
+    let d = judged t in
+    let s = searched d in
+    let r = read s in
+    ap (λ p. p .book)
+    (post-accepted (book (turn r)) (given r .raw) (change t) (d .decision .result) _ _ _ _ next f _ _ (decision-is d) (t .decision2 .given .1)
+    (s .before .before .before .slot .ensures) (next-number t) (c .before .with-newest .ensures) (c .before .before .entry3 .ensures) names rewritten (c .after .ensures) refl)
+
+-- a turn whose record ends nothing keeps the invariant
+stepped : (c : Passed) (next : Book) (m : List ℕ) → let r = read (searched (decided-on c)) in let t = turn r in
+    next ≡ postOf (book t) (given r .raw) .book → m ≡ set (t .before .loop .results) (index t) (c .before .before .before .before .before .before .refusal .result) →
+    Inv-loop (bytes t) (image t) (now (t .before .before .before .before .args .results)) (t .before .before .before .before .args .t1) 0 0 m next (index t + 1)
+stepped c next m posted marked =
+    let r = read (searched (decided-on c)) in
+    let t = turn r in
+    let l = t .before .loop in
+    let step = replay-step (image t) (book t) next (bytes t) (l .results) m (index t) _ (before-end t)
+    (number-is (c .before .before .before .before .before .before))
+    (posted ∙ ap (λ q. postOf (book t) (q .raw) .book) (record-is r)) marked (goes-on c) in
+    (step .0, step .1 ∙ l .inv .1, l .inv .2 ∙ step .2)
 
 loop-holds : tie.Need-loop-holds Inv-loop2 μ-loop2 Inv-loop μ-loop
-loop-holds c = (omega arith, refl, ap (λ rs. replayOf (c .before .before .args .image) rs (c .before .before .args .t1) (now (c .before .before .args .results)) 0) (rest-start (now (c .before .before .args .records))))
+loop-holds c =
+    let a = c .before .before .args in
+    (omega arith, refl, ap (λ rs. replayOf (a .image) rs (a .t1) (now (a .results)) 0) (rest-start (now (a .records))))
 
 mul-at : tie.Need-mul-at Inv-loop2 μ-loop2 Inv-loop μ-loop
 mul-at c = omega arith
@@ -100,14 +240,20 @@ part-record-in-start c = omega arith
 part-record-in-end : tie.Need-part-record-in-end Inv-loop2 μ-loop2 Inv-loop μ-loop
 part-record-in-end c = omega arith
 
+-- the account's place
+slot-in : (c : tie.After-slot Inv-loop2 μ-loop2 Inv-loop μ-loop) → c .slot .result < accountsMost
+slot-in c = omega (arith, slot-inside (given (c .before .before .before) .raw .account), c .slot .ensures)
+
 mul-account : tie.Need-mul-account Inv-loop2 μ-loop2 Inv-loop μ-loop
-mul-account c = omega (arith, slot-inside (c .before .before .before .record-in .result .raw .account), c .slot .ensures)
+mul-account c = let h = slot-in c in omega arith
 
 element-copy-out-account : tie.Need-element-copy-out-account Inv-loop2 μ-loop2 Inv-loop μ-loop
-element-copy-out-account c = omega (arith, slot-inside (c .before .before .before .record-in .result .raw .account), c .slot .ensures)
+element-copy-out-account c = slot-in c
 
 loop2-holds : tie.Need-loop2-holds Inv-loop2 μ-loop2 Inv-loop μ-loop
-loop2-holds c = rw (c .of .ensures) (begins (c .before .before .before .before .before .before .before .before .loop .book) (c .before .before .before .before .before .record-in .result .raw) (c .before .before .slot .result) (c .before .before .slot .ensures))
+loop2-holds c =
+    rw (c .of .ensures) (begins (c .before .before .before .before .before .before .before .before .loop .book)
+    (c .before .before .before .before .before .record-in .result .raw) (c .before .before .slot .result) (c .before .before .slot .ensures))
 
 mul-entry : tie.Need-mul-entry Inv-loop2 μ-loop2 Inv-loop μ-loop
 mul-entry c = omega (arith, place-inside (c .before .before .before .loop2 .search .at), c .place .ensures)
@@ -116,10 +262,14 @@ element-copy-out-entry : tie.Need-element-copy-out-entry Inv-loop2 μ-loop2 Inv-
 element-copy-out-entry c = omega (arith, place-inside (c .before .before .before .loop2 .search .at), c .place .ensures)
 
 loop2-less : tie.Need-loop2-less Inv-loop2 μ-loop2 Inv-loop μ-loop
-loop2-less c = rw (c .past .ensures) (nearer (c .before .before .before .before .before .loop2 .search) _ _ (sym (c .before .before .before .before .goes-on .ensures) ∙ c .before .before .before .if1 .taken))
+loop2-less c = rw (c .past .ensures) (nearer (c .before .before .before .before .before .loop2 .search) _ _ (searches-on (c .before .before .before)))
 
 loop2-again : tie.Need-loop2-again Inv-loop2 μ-loop2 Inv-loop μ-loop
-loop2-again c = rw (c .past .ensures, c .before .before .place .ensures) (past (c .before .before .before .before .before .before .before .before .before .before .before .before .before .before .loop .book .entries) (pointsAt (c .before .before .before .before .before .before .before .before .before .before .before .record-in .result .raw)) (c .before .before .before .before .before .loop2 .search) (sym (c .before .before .before .before .goes-on .ensures) ∙ c .before .before .before .if1 .taken) ∙ c .before .before .before .before .before .loop2 .inv)
+loop2-again c =
+    let s : Searched = c .before .before .before .before .before in
+    let r = read s in
+    rw (c .past .ensures, c .before .before .place .ensures)
+    (past (book (turn r) .entries) (pointsAt (given r .raw)) (s .loop2 .search) (searches-on (c .before .before .before)) ∙ s .loop2 .inv)
 
 mul-entry-2 : tie.Need-mul-entry-2 Inv-loop2 μ-loop2 Inv-loop μ-loop
 mul-entry-2 c = omega (arith, place-inside (c .before .before .before .loop2 .search .at), c .place2 .ensures)
@@ -128,80 +278,69 @@ element-copy-out-entry-2 : tie.Need-element-copy-out-entry-2 Inv-loop2 μ-loop2 
 element-copy-out-entry-2 c = omega (arith, place-inside (c .before .before .before .loop2 .search .at), c .place2 .ensures)
 
 add-i : tie.Need-add-i Inv-loop2 μ-loop2 Inv-loop μ-loop
-add-i c = omega (arith, before-end (c .before .before .before .before .before .before .before .before .before .before .before .before .before .before .before .before .before .before .before), c .before .before .before .before .before .before .before .before .before .before .before .before .before .before .before .before .before .before .before .before .before .before .before .good)
+add-i c =
+    let t = turn (read (searched (c .before .before .before .before .before .before))) in
+    omega (arith, before-end t, t .before .before .before .before .good)
 
 same-length : tie.Need-same-length Inv-loop2 μ-loop2 Inv-loop μ-loop
 same-length c =
-    let l = c .before .before .before .before .before .before .before .before .before .before .before .before .before .before .before .before .before .before .before .before .before .before .before .before .before .loop in
-    ap length (c .before .before .before .before .before .before .before .put-result .ensures) ∙ length-set (l .results) (l .i) (c .before .before .before .before .before .before .before .before .refusal .result) ∙ l .inv .1
+    let c₈ = c .before .before .before .before .before .before .before .before in
+    let l = turn (read (searched (c₈ .before .before .before))) .before .loop in
+    ap length (c .before .before .before .before .before .before .before .put-result .ensures) ∙ length-set (l .results) (l .i)
+    (c₈ .refusal .result) ∙ l .inv .1
 
 returns : tie.Need-returns Inv-loop2 μ-loop2 Inv-loop μ-loop
 returns c =
-    let l = c .before .before .before .before .before .before .before .before .before .before .before .before .before .before .before .before .before .before .before .before .before .before .before .before .before .loop in
-    let b = c .before .before .before .before .before .before .before .before .before .before .before .before .before .before .before .before .before .before .before .before .before .before .before .before .before .loop .book in
+    let c₈ = c .before .before .before .before .before .before .before .before in
+    let r = read (searched (c₈ .before .before .before)) in
+    let t = turn r in
+    let l = t .before .loop in
     let n = c .before .before .refusal2 .given .0 .0 in
-    let end = end-refused (c .before .before .before .before .before .before .before .before .before .before .before .before .before .before .before .before .before .before .before .before .before .before .before .before .before .before .before .before .args .image) b (c .before .before .before .before .before .before .before .before .before .before .before .before .before .before .before .before .before .before .before .before .before .before .record-in .result) n (sym (end-is (c .before .before .before .before)) ∙ c .before .before .refusal2 .given .1) in
-    rw (c .refused .ensures, c .before .before .before .before .before .before .before .before .before .before .one-more .ensures)
-    (replay-stop (c .before .before .before .before .before .before .before .before .before .before .before .before .before .before .before .before .before .before .before .before .before .before .before .before .before .before .before .before .args .image) b (now (c .before .before .before .before .before .before .before .before .before .before .before .before .before .before .before .before .before .before .before .before .before .before .before .before .before .before .before .before .args .records)) (l .results) _ (l .i) _ (refusalNumber n) (before-end (c .before .before .before .before .before .before .before .before .before .before .before .before .before .before .before .before .before .before .before .before .before .before .before .before)) (number-is (c .before .before .before .before .before .before .before .before)) (c .before .before .before .before .before .before .before .put-result .ensures) (end .0) (end .1 ∙ ap (recordRefusal b) (record-is (c .before .before .before .before .before .before .before .before .before .before .before .before .before .before .before .before .before .before .before .before .before .before))) (refusal-above n) ∙ sym (l .inv .2))
-
-cast-t49 : tie.Need-cast-t49 Inv-loop2 μ-loop2 Inv-loop μ-loop
-cast-t49 c = let h = not-full (c .before .before) in omega arith
-
-mul-t50 : tie.Need-mul-t50 Inv-loop2 μ-loop2 Inv-loop μ-loop
-mul-t50 c = let h = not-full (c .before .before) in omega arith
+    let end = end-refused (image t) (book t) (given r) n (sym (end-is (c .before .before .before .before)) ∙ c .before .before .refusal2 .given .1) in
+    rw (c .refused .ensures, c₈ .before .before .one-more .ensures)
+    (replay-stop (image t) (book t) (bytes t) (l .results) _ (index t) _ (refusalNumber n) (before-end t) (number-is c₈)
+    (c .before .before .before .before .before .before .before .put-result .ensures)
+    (end .0) (end .1 ∙ ap (recordRefusal (book t)) (record-is r)) (refusal-above n) ∙ sym (l .inv .2))
 
 element-set-from-book : tie.Need-element-set-from-book Inv-loop2 μ-loop2 Inv-loop μ-loop
 element-set-from-book c = let h = not-full (c .before .before) in omega arith
 
-mul-t49 : tie.Need-mul-t49 Inv-loop2 μ-loop2 Inv-loop μ-loop
-mul-t49 c = omega (arith, slot-inside (c .before .before .before .before .before .before .before .before .before .before .before .before .before .before .before .before .before .before .before .before .before .before .before .before .before .record-in .result .raw .account), c .before .before .before .before .before .before .before .before .before .before .before .before .before .before .before .before .before .before .before .before .before .before .slot .ensures)
-
 element-set-from-book-2 : tie.Need-element-set-from-book-2 Inv-loop2 μ-loop2 Inv-loop μ-loop
-element-set-from-book-2 c = omega (arith, slot-inside (c .before .before .before .before .before .before .before .before .before .before .before .before .before .before .before .before .before .before .before .before .before .before .before .before .before .record-in .result .raw .account), c .before .before .before .before .before .before .before .before .before .before .before .before .before .before .before .before .before .before .before .before .before .before .slot .ensures)
-
-mul-t58 : tie.Need-mul-t58 Inv-loop2 μ-loop2 Inv-loop μ-loop
-mul-t58 c = let h = inside (c .before .before) in omega arith
+element-set-from-book-2 c = slot-in (searched (judged (c .before .before .before)) .before .before .before)
 
 element-set-from-book-3 : tie.Need-element-set-from-book-3 Inv-loop2 μ-loop2 Inv-loop μ-loop
 element-set-from-book-3 c = inside (c .before .before)
 
 loop-less : tie.Need-loop-less Inv-loop2 μ-loop2 Inv-loop μ-loop
-loop-less c = replay-less _ _ (before-end (c .before .before .before .before .before .before .before .before .before .before .before .before .before .before .before .before .before .before .before .before .before .before .before .before .before .before .before .before .before .before .before .before))
+loop-less c = replay-less _ _ (before-end (turn (read (searched (judged (c .before .before .before .before .before .before .before .before))))))
 
 loop-again : tie.Need-loop-again Inv-loop2 μ-loop2 Inv-loop μ-loop
 loop-again c =
-    let l = c .before .before .before .before .before .before .before .before .before .before .before .before .before .before .before .before .before .before .before .before .before .before .before .before .before .before .before .before .before .before .before .before .before .loop in
-    let b = c .before .before .before .before .before .before .before .before .before .before .before .before .before .before .before .before .before .before .before .before .before .before .before .before .before .before .before .before .before .before .before .before .before .loop .book in
-    let r = c .before .before .before .before .before .before .before .before .before .before .before .before .before .before .before .before .before .before .before .before .before .before .before .before .before .before .before .before .before .before .record-in .result .raw in
-    let step = replay-step (c .before .before .before .before .before .before .before .before .before .before .before .before .before .before .before .before .before .before .before .before .before .before .before .before .before .before .before .before .before .before .before .before .before .before .before .before .args .image) b _ (now (c .before .before .before .before .before .before .before .before .before .before .before .before .before .before .before .before .before .before .before .before .before .before .before .before .before .before .before .before .before .before .before .before .before .before .before .before .args .records)) (l .results) _ (l .i) _ (before-end (c .before .before .before .before .before .before .before .before .before .before .before .before .before .before .before .before .before .before .before .before .before .before .before .before .before .before .before .before .before .before .before .before)) (number-is (c .before .before .before .before .before .before .before .before .before .before .before .before .before .before .before .before))
-    (ap (λ p. p .book) (post-accepted b r (c .before .before .before .before .before .before .before .before .decision2 .given .0 .0) (c .before .before .before .before .before .before .before .before .before .before .before .before .before .before .before .before .before .before .before .decision .result) _ _ _ _ _ _ _ _ (decision-is (c .before .before .before .before .before .before .before .before .before .before .before .before .before .before .before .before .before .before .before)) (c .before .before .before .before .before .before .before .before .decision2 .given .1) (c .before .before .before .before .before .before .before .before .before .before .before .before .before .before .before .before .before .before .before .before .before .before .before .before .before .before .before .slot .ensures) (next-number (c .before .before .before .before .before .before .before .before)) (c .before .before .before .before .before .with-newest .ensures) (c .before .before .before .before .before .before .entry3 .ensures)
-    (c .before .before .named-at .given .1) (rewrites-at (b .entries) (set (b .entries) (b .count) (c .before .before .before .before .before .before .entry3 .result)) _ _ (c .before .before .before .before .before .before .before .before .decision2 .given .0 .0 .«named_data») _ (c .rewritten .ensures) (rewritten-is (c .before .before))) (c .before .before .before .before .after .ensures) refl) ∙ ap (λ q. postOf b (q .raw) .book) (record-is (c .before .before .before .before .before .before .before .before .before .before .before .before .before .before .before .before .before .before .before .before .before .before .before .before .before .before .before .before .before .before))) (c .before .before .before .before .before .before .before .before .before .before .before .before .before .before .before .put-result .ensures) (goes-on (c .before .before .before .before .before .before .before .before .before .before)) in
-    (step .0, step .1 ∙ l .inv .1, l .inv .2 ∙ step .2)
+    let w : Stored = c .before .before .before .before in
+    let t = taken w in
+    stepped (t .before .before) _ _
+    (stored w _ _ (c .before .before .named-at .given .1)
+    (rewrites-at (book (turn (read (searched (judged t)))) .entries) (joined w) _ _ (change t .«named_data») _ (c .rewritten .ensures) (rewritten-is (c .before .before))))
+    (t .before .before .before .before .before .before .before .put-result .ensures)
 
 loop-less-2 : tie.Need-loop-less-2 Inv-loop2 μ-loop2 Inv-loop μ-loop
-loop-less-2 c = replay-less _ _ (before-end (c .before .before .before .before .before .before .before .before .before .before .before .before .before .before .before .before .before .before .before .before .before .before .before .before .before .before .before .before .before .before))
+loop-less-2 c = replay-less _ _ (before-end (turn (read (searched (judged (c .before .before .before .before .before .before))))))
 
 loop-again-2 : tie.Need-loop-again-2 Inv-loop2 μ-loop2 Inv-loop μ-loop
 loop-again-2 c =
-    let l = c .before .before .before .before .before .before .before .before .before .before .before .before .before .before .before .before .before .before .before .before .before .before .before .before .before .before .before .before .before .before .before .loop in
-    let b = c .before .before .before .before .before .before .before .before .before .before .before .before .before .before .before .before .before .before .before .before .before .before .before .before .before .before .before .before .before .before .before .loop .book in
-    let r = c .before .before .before .before .before .before .before .before .before .before .before .before .before .before .before .before .before .before .before .before .before .before .before .before .before .before .before .before .record-in .result .raw in
-    let step = replay-step (c .before .before .before .before .before .before .before .before .before .before .before .before .before .before .before .before .before .before .before .before .before .before .before .before .before .before .before .before .before .before .before .before .before .before .args .image) b _ (now (c .before .before .before .before .before .before .before .before .before .before .before .before .before .before .before .before .before .before .before .before .before .before .before .before .before .before .before .before .before .before .before .before .before .before .args .records)) (l .results) _ (l .i) _ (before-end (c .before .before .before .before .before .before .before .before .before .before .before .before .before .before .before .before .before .before .before .before .before .before .before .before .before .before .before .before .before .before)) (number-is (c .before .before .before .before .before .before .before .before .before .before .before .before .before .before))
-    (ap (λ p. p .book) (post-accepted b r (c .before .before .before .before .before .before .decision2 .given .0 .0) (c .before .before .before .before .before .before .before .before .before .before .before .before .before .before .before .before .before .decision .result) _ _ _ _ _ _ _ _ (decision-is (c .before .before .before .before .before .before .before .before .before .before .before .before .before .before .before .before .before)) (c .before .before .before .before .before .before .decision2 .given .1) (c .before .before .before .before .before .before .before .before .before .before .before .before .before .before .before .before .before .before .before .before .before .before .before .before .before .slot .ensures) (next-number (c .before .before .before .before .before .before)) (c .before .before .before .with-newest .ensures) (c .before .before .before .before .entry3 .ensures)
-    (c .enum-told2 .given .1) refl (c .before .before .after .ensures) refl) ∙ ap (λ q. postOf b (q .raw) .book) (record-is (c .before .before .before .before .before .before .before .before .before .before .before .before .before .before .before .before .before .before .before .before .before .before .before .before .before .before .before .before))) (c .before .before .before .before .before .before .before .before .before .before .before .before .before .put-result .ensures) (goes-on (c .before .before .before .before .before .before .before .before)) in
-    (step .0, step .1 ∙ l .inv .1, l .inv .2 ∙ step .2)
+    let t = taken (c .before .before) in
+    stepped (t .before .before) _ _ (stored (c .before .before) _ _ (c .enum-told2 .given .1) refl) (t .before .before .before .before .before .before .before .put-result .ensures)
 
 loop-less-3 : tie.Need-loop-less-3 Inv-loop2 μ-loop2 Inv-loop μ-loop
-loop-less-3 c = replay-less _ _ (before-end (c .before .before .before .before .before .before .before .before .before .before .before .before .before .before .before .before .before .before .before .before .before .before .before .before))
+loop-less-3 c = replay-less _ _ (before-end (turn (read (searched (decided-on (c .before .before))))))
 
 loop-again-3 : tie.Need-loop-again-3 Inv-loop2 μ-loop2 Inv-loop μ-loop
 loop-again-3 c =
-    let l = c .before .before .before .before .before .before .before .before .before .before .before .before .before .before .before .before .before .before .before .before .before .before .before .before .before .loop in
-    let b = c .before .before .before .before .before .before .before .before .before .before .before .before .before .before .before .before .before .before .before .before .before .before .before .before .before .loop .book in
-    let r = c .before .before .before .before .before .before .before .before .before .before .before .before .before .before .before .before .before .before .before .before .before .before .record-in .result .raw in
-    let step = replay-step (c .before .before .before .before .before .before .before .before .before .before .before .before .before .before .before .before .before .before .before .before .before .before .before .before .before .before .before .before .args .image) b b (now (c .before .before .before .before .before .before .before .before .before .before .before .before .before .before .before .before .before .before .before .before .before .before .before .before .before .before .before .before .args .records)) (l .results) _ (l .i) _ (before-end (c .before .before .before .before .before .before .before .before .before .before .before .before .before .before .before .before .before .before .before .before .before .before .before .before)) (number-is (c .before .before .before .before .before .before .before .before))
-    (sym (ap (λ p. p .book) (post-refused b r (c .enum-told3 .given .0 .0) (sym (decision-is (c .before .before .before .before .before .before .before .before .before .before .before)) ∙ c .enum-told3 .given .1))) ∙ ap (λ q. postOf b (q .raw) .book) (record-is (c .before .before .before .before .before .before .before .before .before .before .before .before .before .before .before .before .before .before .before .before .before .before))) (c .before .before .before .before .before .before .before .put-result .ensures) (goes-on (c .before .before)) in
-    (step .0, step .1 ∙ l .inv .1, l .inv .2 ∙ step .2)
+    let d = decided-on (c .before .before) in
+    let r = read (searched d) in
+    stepped (c .before .before) _ _
+    (sym (ap (λ p. p .book) (post-refused (book (turn r)) (given r .raw) (c .enum-told3 .given .0 .0) (sym (decision-is d) ∙ c .enum-told3 .given .1))))
+    (c .before .before .before .before .before .before .before .put-result .ensures)
 
 same-length-2 : tie.Need-same-length-2 Inv-loop2 μ-loop2 Inv-loop μ-loop
 same-length-2 c = c .before .loop .inv .1
@@ -209,8 +348,9 @@ same-length-2 c = c .before .loop .inv .1
 returns-2 : tie.Need-returns-2 Inv-loop2 μ-loop2 Inv-loop μ-loop
 unfolding loadedReply
 returns-2 c =
+    let a = c .before .before .before .before .args in
     let l = c .before .loop in
-    replay-end (c .before .before .before .before .args .image) (l .book) (now (c .before .before .before .before .args .records)) (l .results) (l .i) (omega arith) ∙ sym (l .inv .2)
+    replay-end (a .image) (l .book) (now (a .records)) (l .results) (l .i) (omega arith) ∙ sym (l .inv .2)
 
 pub replay-spec : {M : Type 1} → statement M
 replay-spec =
@@ -218,7 +358,9 @@ replay-spec =
     (λ c κs. search needs) (λ c κs. search needs) mul-account element-copy-out-account (λ c κs. search needs) loop2-holds (λ c κs. search needs)
     (λ c κs. search needs) mul-entry element-copy-out-entry (λ c κs. search needs) loop2-less loop2-again (λ c κs. search needs) mul-entry-2
     element-copy-out-entry-2 (λ c κs. search needs) (λ c κs. search needs) (λ c κs. search needs) (λ c κs. search needs) add-i (λ c κs. search needs)
-    (λ c. search needs) (λ c κs. search needs) same-length returns (λ c. search needs) (λ c. search needs) (λ c κs. search needs) cast-t49 mul-t50
-    element-set-from-book (λ c κs. search needs) mul-t49 element-set-from-book-2 (λ c κs. search needs) (λ c. search needs) (λ c κs. search needs)
-    mul-t58 element-set-from-book-3 loop-less loop-again (λ c. search needs) loop-less-2 loop-again-2 (λ c. search needs) loop-less-3 loop-again-3
-    same-length-2 returns-2)
+    (λ c. search needs) (λ c κs. search needs) same-length returns (λ c. search needs) (λ c. search needs) (λ c κs. search needs)
+    (λ c. let h = not-full (c .before .before) in omega arith) (λ c. let h = not-full (c .before .before) in omega arith) element-set-from-book
+    (λ c κs. search needs) (λ c. let h = slot-in (searched (judged (c .before .before .before)) .before .before .before) in omega arith)
+    element-set-from-book-2 (λ c κs. search needs) (λ c. search needs) (λ c κs. search needs)
+    (λ c. let h = inside (c .before .before) in omega arith) element-set-from-book-3 loop-less loop-again (λ c. search needs) loop-less-2
+    loop-again-2 (λ c. search needs) loop-less-3 loop-again-3 same-length-2 returns-2)

@@ -1,4 +1,4 @@
-use Rattle.saves.specs.Raws.{rawOf}
+use Rattle.saves.specs.Saves.{rawOf}
 use borrow.Author.Needs.{needs}
 use Rattle.saves.proofs.raw_of.Statement.{statement}
 use Rattle.saves.proofs.raw_of.Tie as tie

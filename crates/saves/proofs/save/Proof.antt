@@ -30,30 +30,45 @@ returns c = save-refused (c .before .before .before .args .t1) (now (c .before .
 
 loop-holds : tie.Need-loop-holds Inv-loop μ-loop
 loop-holds c =
-    let a = c .before .before .before .before .before .before .before .before .before .args in
+    let c₈ = c .before .before .before .before .before .before .before .before in
+    let a = c₈ .before .args in
     let w = c .before .before .put in
-    let first = header-put (now (a .buf)) (w .last .0) (c .before .before .before .before .before .before .before .entry-count .result) (w .result) (omega arith) (search needs) (w .ensures ∙ ap (λ t. writtenAt t 0 (now (a .buf))) (c .before .before .before .before .before .header .ensures)) in
+    let first = header-put (now (a .buf)) (w .last .0) (c .before .before .before .before .before .before .before .entry-count .result) (w .result)
+    (omega arith) (search needs) (w .ensures ∙ ap (λ t. writtenAt t 0 (now (a .buf))) (c .before .before .before .before .before .header .ensures)) in
     (omega arith, refl, omega (arith, first .1), save-begun (a .t1) (w .last .0) (w .result) (omega arith) (first .1))
 
 loop-again : tie.Need-loop-again Inv-loop μ-loop
 loop-again c =
-    let a = c .before .before .before .before .before .before .before .before .before .before .before .before .before .before .before .before .before .before .before .args in
-    let p = c .before .before .before .before .before .before .before .before .before .before .before .before .put .last .0 in
-    let l = c .before .before .before .before .before .before .before .before .before .loop in
+    let c₈ = c .before .before .before .before .before .before .before .before in
+    let c₁₆ = c₈ .before .before .before .before .before .before .before .before in
+    let a = c₁₆ .before .before .before .args in
+    let p = c₈ .before .before .before .before .put .last .0 in
+    let l = c₈ .before .loop in
     let w = c .before .before .put2 in
-    let n = full (c .before .before .before .before .before .before .before .before .before .before .before .before .before .before .before .before .before .before .before) in
-    let held = save-step (a .t1) p (l .buf) (w .last .0) (c .before .before .before .before .before .encode .result) (l .i) (l .at) (w .result) noEntry (omega arith) (omega arith) (search needs) (rw (c .before .before .before .before .before .before .raw-of .ensures) at (c .before .before .before .before .before .encode .ensures)) (w .ensures) (l .inv .3) in
-    (omega arith, search needs, holds-length (begunOf (a .t1) p (l .i + 1)) p (w .last .0) (w .result) held ∙ length-begun (a .t1) p (l .i + 1) (omega arith) (omega arith), held)
+    let n = full (c₁₆ .before .before .before) in
+    let held = save-step (a .t1) p (l .buf) (w .last .0) (c .before .before .before .before .before .encode .result) (l .i) (l .at)
+    (w .result) noEntry (omega arith) (omega arith) (search needs)
+    (rw (c .before .before .before .before .before .before .raw-of .ensures) at (c .before .before .before .before .before .encode .ensures))
+    (w .ensures) (l .inv .3) in (
+      omega arith,
+      search needs,
+      holds-length (begunOf (a .t1) p (l .i + 1)) p (w .last .0) (w .result) held ∙ length-begun (a .t1) p (l .i + 1)
+          (omega arith) (omega arith),
+      held,
+    )
 
 returns-2 : tie.Need-returns-2 Inv-loop μ-loop
 unfolding saveReplyOf
 returns-2 c =
-    let a = c .before .before .before .before .before .before .before .before .before .before .before .args in
-    let n = c .before .before .before .before .before .before .before .before .before .entry-count in
+    let c₈ = c .before .before .before .before .before .before .before .before in
+    let a = c₈ .before .before .before .args in
+    let n = c₈ .before .entry-count in
     let w = c .before .before .before .before .put in
     let l = c .before .loop in
     let e : l .i ≡ n .result = omega arith in
-    save-done (a .t1) (now (a .buf)) (w .last .0) (l .buf) (n .result) (w .result) (l .at) (full (c .before .before .before .before .before .before .before .before .before .before .before)) (n .ensures .0) (omega arith) (search needs) (w .ensures ∙ ap (λ t. writtenAt t 0 (now (a .buf))) (c .before .before .before .before .before .before .before .header .ensures)) (rw e at (l .inv .3))
+    save-done (a .t1) (now (a .buf)) (w .last .0) (l .buf) (n .result) (w .result) (l .at) (full (c₈ .before .before .before)) (n .ensures .0)
+    (omega arith) (search needs) (w .ensures ∙ ap (λ t. writtenAt t 0 (now (a .buf)))
+    (c .before .before .before .before .before .before .before .header .ensures)) (rw e at (l .inv .3))
 
 pub save-spec : {M : Type 1} → statement M
 save-spec =

@@ -7,8 +7,17 @@ use borrow.Author.Needs.{needs}
 use Rattle.changes.specs.Changes.{answerOf}
 use Rattle.changes.specs.declared.Decision.the-variants.{Accepted}
 use Rattle.entries.specs.Data.{pointsAt}
-use Rattle.book.specs.Fresh.{entriesMost}
-use Rattle.book.specs.Posting.{lookupOf, decisionOf}
+use Rattle.book.specs.Fresh.{accountsMost, entriesMost}
+use Rattle.book.specs.Posting.{PostedReply, lookupOf, decisionOf, entriesRewritten, postOf}
+use mathlib.Core.Bool.{true, false}
+use mathlib.Core.List.{List}
+use Rattle.rules.specs.Answers.{postingReplyOf}
+use Rattle.entries.specs.declared.raw.Raw.{Raw}
+use Rattle.entries.specs.declared.data.Entry.{Entry}
+use Rattle.changes.specs.declared.Found.{Found}
+use Rattle.changes.specs.declared.Change.{Change}
+use Rattle.book.specs.Search.{goesOnOf}
+use Rattle.book.specs.declared.Book.{Book}
 use Rattle.book.proofs.Chain.{slot-inside, place-inside}
 use Rattle.book.proofs.SearchLaws.{findsOf, begins, nearer, past, decided, rewrites}
 use Rattle.book.proofs.Posting.{room, post-refused, rewrites-at, post-accepted}
@@ -21,20 +30,63 @@ Inv-loop raw self count last a account search₀ search = findsOf (self .entries
 abbrev μ-loop : tie.MeasureT-loop
 μ-loop raw self count last a account search₀ search = search .left
 
+-- THE STATES that the needs speak of: in the search or behind it; after the decision; where the entry is accepted; where it is stored
+abbrev Searched : Type 0
+Searched = tie.At-loop Inv-loop μ-loop
+
+abbrev Decided : Type 0
+Decided = tie.After-decision Inv-loop μ-loop
+
+abbrev Taken : Type 0
+Taken = tie.After-decision2 Inv-loop μ-loop
+
+abbrev Stored : Type 0
+Stored = tie.After-after Inv-loop μ-loop
+
+-- the way back, and what is known there
+abbrev book : Searched → Book
+book c = c .before .before .before .before .before .args .t1
+
+abbrev given : Searched → Raw
+given c = c .before .before .before .before .before .args .raw
+
+abbrev placed : Decided → tie.After-place2 Inv-loop μ-loop
+placed c = c .before .before
+
+abbrev searched : Decided → Searched
+searched c = placed c .before .before .before
+
+abbrev judged : Taken → Decided
+judged c = c .before .before .before .before
+
+abbrev change : Taken → Change
+change c = c .decision2 .given .0 .0
+
+abbrev taken : Stored → Taken
+taken c = c .before .before .before .before
+
+-- the search goes on in the loop, and is over behind it
+goes-on : (c : tie.Then1 Inv-loop μ-loop) → goesOnOf (c .before .before .loop .search) ≡ true
+goes-on c = sym (c .before .goes-on .ensures) ∙ c .if1 .taken
+
+over : (c : tie.Else1 Inv-loop μ-loop) → goesOnOf (c .before .before .loop .search) ≡ false
+over c = sym (c .before .goes-on .ensures) ∙ c .if1 .left
+
 -- what `decision` gives is the decision on the entry
-decision-is : (c : tie.After-decision Inv-loop μ-loop) → c .decision .result ≡ decisionOf (c .before .before .before .before .before .before .before .before .before .before .args .t1) (c .before .before .before .before .before .before .before .before .before .before .args .raw)
+decision-is : (c : Decided) → let s = searched c in c .decision .result ≡ decisionOf (book s) (given s)
 decision-is c =
-    decided (c .before .before .before .before .before .before .before .before .before .before .args .t1) (c .before .before .before .before .before .before .before .before .before .before .args .raw) (c .before .before .before .before .before .loop .search) _ _ _ (c .before .before .before .before .before .before .before .before .slot .ensures) (c .before .before .before .before .before .loop .inv)
-    (sym (c .before .before .before .before .goes-on .ensures) ∙ c .before .before .before .if1 .left) (c .before .before .place2 .ensures) (c .decision .ensures)
+    let s = searched c in
+    decided (book s) (given s) (s .loop .search) _ _ _ (s .before .before .before .slot .ensures) (s .loop .inv) (over (placed c .before))
+    (placed c .place2 .ensures) (c .decision .ensures)
 
 -- an accepted entry, and its number
-accepted : (c : tie.After-decision2 Inv-loop μ-loop) → decisionOf (c .before .before .before .before .before .before .before .before .before .before .before .before .before .before .args .t1) (c .before .before .before .before .before .before .before .before .before .before .before .before .before .before .args .raw) ≡ Accepted (c .decision2 .given .0 .0)
-accepted c = sym (decision-is (c .before .before .before .before)) ∙ c .decision2 .given .1
+accepted : (c : Taken) → let s = searched (judged c) in decisionOf (book s) (given s) ≡ Accepted (change c)
+accepted c = sym (decision-is (judged c)) ∙ c .decision2 .given .1
 
-not-full : (c : tie.After-decision2 Inv-loop μ-loop) → c .before .before .before .before .before .before .before .before .before .before .before .before .before .before .args .t1 .count < entriesMost
-not-full c = room (c .before .before .before .before .before .before .before .before .before .before .before .before .before .before .args .t1) (c .before .before .before .before .before .before .before .before .before .before .before .before .before .before .args .raw) (c .decision2 .given .0 .0) (accepted c)
+not-full : (c : Taken) → book (searched (judged c)) .count < entriesMost
+not-full c = let s = searched (judged c) in room (book s) (given s) (change c) (accepted c)
 
-next-number : (c : tie.After-decision2 Inv-loop μ-loop) → c .before .before .before .one-more .result ≡ c .before .before .before .before .before .before .before .before .before .before .before .before .before .before .args .t1 .count + 1
+next-number : (c : Taken) → c .before .before .before .one-more .result ≡ book (searched (judged c)) .count + 1
 next-number c =
     let h = not-full c in
     c .before .before .before .one-more .ensures ∙ min-eq-left (omega arith)
@@ -46,7 +98,9 @@ element-copy-out-account : tie.Need-element-copy-out-account Inv-loop μ-loop
 element-copy-out-account c = omega (arith, slot-inside (c .before .before .args .raw .account))
 
 loop-holds : tie.Need-loop-holds Inv-loop μ-loop
-loop-holds c = rw (c .of .ensures) (begins (c .before .before .before .before .args .t1) (c .before .before .before .before .args .raw) (c .before .before .slot .result) (c .before .before .slot .ensures))
+loop-holds c =
+    let a = c .before .before .before .before .args in
+    rw (c .of .ensures) (begins (a .t1) (a .raw) (c .before .before .slot .result) (c .before .before .slot .ensures))
 
 mul-entry : tie.Need-mul-entry Inv-loop μ-loop
 mul-entry c = omega (arith, place-inside (c .before .before .before .loop .search .at), c .place .ensures)
@@ -55,10 +109,12 @@ element-copy-out-entry : tie.Need-element-copy-out-entry Inv-loop μ-loop
 element-copy-out-entry c = omega (arith, place-inside (c .before .before .before .loop .search .at), c .place .ensures)
 
 loop-less : tie.Need-loop-less Inv-loop μ-loop
-loop-less c = rw (c .past .ensures) (nearer (c .before .before .before .before .before .loop .search) _ _ (sym (c .before .before .before .before .goes-on .ensures) ∙ c .before .before .before .if1 .taken))
+loop-less c = rw (c .past .ensures) (nearer (c .before .before .before .before .before .loop .search) _ _ (goes-on (c .before .before .before)))
 
 loop-again : tie.Need-loop-again Inv-loop μ-loop
-loop-again c = rw (c .past .ensures, c .before .before .place .ensures) (past (c .before .before .before .before .before .before .before .before .before .before .args .t1 .entries) (pointsAt (c .before .before .before .before .before .before .before .before .before .before .args .raw)) (c .before .before .before .before .before .loop .search) (sym (c .before .before .before .before .goes-on .ensures) ∙ c .before .before .before .if1 .taken) ∙ c .before .before .before .before .before .loop .inv)
+loop-again c =
+    let s : Searched = c .before .before .before .before .before in
+    rw (c .past .ensures, c .before .before .place .ensures) (past (book s .entries) (pointsAt (given s)) (s .loop .search) (goes-on (c .before .before .before)) ∙ s .loop .inv)
 
 mul-entry-2 : tie.Need-mul-entry-2 Inv-loop μ-loop
 mul-entry-2 c = omega (arith, place-inside (c .before .before .before .loop .search .at), c .place2 .ensures)
@@ -66,50 +122,81 @@ mul-entry-2 c = omega (arith, place-inside (c .before .before .before .loop .sea
 element-copy-out-entry-2 : tie.Need-element-copy-out-entry-2 Inv-loop μ-loop
 element-copy-out-entry-2 c = omega (arith, place-inside (c .before .before .before .loop .search .at), c .place2 .ensures)
 
-cast-t32 : tie.Need-cast-t32 Inv-loop μ-loop
-cast-t32 c = let h = not-full (c .before .before) in omega arith
-
-mul-t33 : tie.Need-mul-t33 Inv-loop μ-loop
-mul-t33 c = let h = not-full (c .before .before) in omega arith
-
 element-set-from-self : tie.Need-element-set-from-self Inv-loop μ-loop
 element-set-from-self c = let h = not-full (c .before .before) in omega arith
 
-mul-t32 : tie.Need-mul-t32 Inv-loop μ-loop
-mul-t32 c = omega (arith, slot-inside (c .before .before .before .before .before .before .before .before .before .before .before .before .before .before .before .before .before .args .raw .account), c .before .before .before .before .before .before .before .before .before .before .before .before .before .before .before .slot .ensures)
+-- the account's place, where its account is stored
+slot-in : (c : tie.After-with-newest Inv-loop μ-loop) → searched (judged (c .before .before .before)) .before .before .before .slot .result < accountsMost
+slot-in c =
+    let s = searched (judged (c .before .before .before)) in
+    omega (arith, slot-inside (given s .account), s .before .before .before .slot .ensures)
 
 element-set-from-self-2 : tie.Need-element-set-from-self-2 Inv-loop μ-loop
-element-set-from-self-2 c = omega (arith, slot-inside (c .before .before .before .before .before .before .before .before .before .before .before .before .before .before .before .before .before .args .raw .account), c .before .before .before .before .before .before .before .before .before .before .before .before .before .before .before .slot .ensures)
+element-set-from-self-2 c = slot-in c
 
-rewritten-is : (c : tie.After-named-at Inv-loop μ-loop) → c .before .before .before .before .before .before .before .before .before .before .before .before .place2 .result ≡ c .named-at .given .0 .0
+-- the entry that is rewritten is the one that the search found
+rewritten-is : (c : tie.After-named-at Inv-loop μ-loop) → placed (judged (taken (c .before .before))) .place2 .result ≡ c .named-at .given .0 .0
 rewritten-is c =
-    rewrites (c .before .before .before .before .before .before .before .before .before .before .before .before .before .before .before .before .before .before .before .before .args .t1) (c .before .before .before .before .before .before .before .before .before .before .before .before .before .before .before .before .before .before .before .before .args .raw) (c .before .before .before .before .before .before .before .before .before .before .before .before .before .before .before .loop .search) _ _ (c .before .before .before .before .before .before .decision2 .given .0 .0) (c .before .before .before .before .before .before .before .before .before .before .before .before .before .before .before .loop .inv)
-    (sym (c .before .before .before .before .before .before .before .before .before .before .before .before .before .before .goes-on .ensures) ∙ c .before .before .before .before .before .before .before .before .before .before .before .before .before .if1 .left) (c .before .before .before .before .before .before .before .before .before .before .before .before .place2 .ensures) (accepted (c .before .before .before .before .before .before)) (c .named-at .given .1)
+    let t = taken (c .before .before) in
+    let d = judged t in
+    let s = searched d in
+    rewrites (book s) (given s) (s .loop .search) _ _ (change t) (s .loop .inv) (over (placed d .before)) (placed d .place2 .ensures) (accepted t) (c .named-at .given .1)
 
 inside : (c : tie.After-named-at Inv-loop μ-loop) → c .named-at .given .0 .0 < entriesMost
-inside c = omega (arith, rewritten-is c, c .before .before .before .before .before .before .before .before .before .before .before .before .place2 .ensures, place-inside (c .before .before .before .before .before .before .before .before .before .before .before .before .before .before .before .loop .search .at))
-
-mul-t41 : tie.Need-mul-t41 Inv-loop μ-loop
-mul-t41 c = let h = inside (c .before .before) in omega arith
+inside c =
+    let d = judged (taken (c .before .before)) in
+    omega (arith, rewritten-is c, placed d .place2 .ensures, place-inside (searched d .loop .search .at))
 
 element-set-from-self-3 : tie.Need-element-set-from-self-3 Inv-loop μ-loop
 element-set-from-self-3 c = inside (c .before .before)
 
+-- the entries with the new one
+abbrev joined : Stored → List Entry
+joined c = let b = book (searched (judged (taken c))) in set (b .entries) (b .count) (c .before .before .entry3 .result)
+
+-- what is stored, with these entries, is what the posting gives
+abbrev postedWith : Stored → List Entry → PostedReply
+postedWith c next =
+    let d = judged (taken c) in
+    let s = searched d in
+    record {
+      book =
+          record {
+            accounts = set (book s .accounts) (s .before .before .before .slot .result) (c .before .with-newest .result);
+            entries = next;
+            count = taken c .before .before .before .one-more .result;
+            last = c .after .result;
+          };
+      reply = postingReplyOf (taken c .before .before .answer .result);
+    }
+
+stored : (c : Stored) (f : Found) (next : List Entry) → let t = taken c in let s = searched (judged t) in
+    change t .«named_at» ≡ f →
+    next ≡ entriesRewritten (book s .entries) f (change t .«named_data») (joined c) →
+    postedWith c next ≡ postOf (book s) (given s)
+stored c f next names rewritten =
+    let t = taken c in
+    let d = judged t in
+    let s = searched d in
+    post-accepted (book s) (given s) (change t) (d .decision .result) _ _ _ _ next f _ _ (decision-is d) (t .decision2 .given .1) (s .before .before .before .slot .ensures)
+    (next-number t) (c .before .with-newest .ensures) (c .before .before .entry3 .ensures) names rewritten (c .after .ensures) (t .before .before .answer .ensures)
+
 returns : tie.Need-returns Inv-loop μ-loop
 returns c =
-    post-accepted (c .before .before .before .before .before .before .before .before .before .before .before .before .before .before .before .before .before .before .before .before .before .before .args .t1) (c .before .before .before .before .before .before .before .before .before .before .before .before .before .before .before .before .before .before .before .before .before .before .args .raw) (c .before .before .before .before .before .before .before .before .decision2 .given .0 .0) (c .before .before .before .before .before .before .before .before .before .before .before .before .decision .result) _ _ _ _ _ _ _ _
-    (decision-is (c .before .before .before .before .before .before .before .before .before .before .before .before)) (c .before .before .before .before .before .before .before .before .decision2 .given .1) (c .before .before .before .before .before .before .before .before .before .before .before .before .before .before .before .before .before .before .before .before .slot .ensures) (next-number (c .before .before .before .before .before .before .before .before)) (c .before .before .before .before .before .with-newest .ensures) (c .before .before .before .before .before .before .entry3 .ensures)
-    (c .before .before .named-at .given .1) (rewrites-at (c .before .before .before .before .before .before .before .before .before .before .before .before .before .before .before .before .before .before .before .before .before .before .args .t1 .entries) (set (c .before .before .before .before .before .before .before .before .before .before .before .before .before .before .before .before .before .before .before .before .before .before .args .t1 .entries) (c .before .before .before .before .before .before .before .before .before .before .before .before .before .before .before .before .before .before .before .before .before .before .args .t1 .count) (c .before .before .before .before .before .before .entry3 .result)) _ _ (c .before .before .before .before .before .before .before .before .decision2 .given .0 .0 .«named_data») _ (c .rewritten .ensures) (rewritten-is (c .before .before))) (c .before .before .before .before .after .ensures) (c .before .before .before .before .before .before .before .before .before .before .answer .ensures)
+    let w = c .before .before .before .before in
+    let s = searched (judged (taken w)) in
+    stored w _ _ (c .before .before .named-at .given .1)
+    (rewrites-at (book s .entries) (joined w) _ _ (change (taken w) .«named_data») _ (c .rewritten .ensures) (rewritten-is (c .before .before)))
 
 returns-2 : tie.Need-returns-2 Inv-loop μ-loop
-returns-2 c =
-    post-accepted (c .before .before .before .before .before .before .before .before .before .before .before .before .before .before .before .before .before .before .before .before .args .t1) (c .before .before .before .before .before .before .before .before .before .before .before .before .before .before .before .before .before .before .before .before .args .raw) (c .before .before .before .before .before .before .decision2 .given .0 .0) (c .before .before .before .before .before .before .before .before .before .before .decision .result) _ _ _ _ _ _ _ _
-    (decision-is (c .before .before .before .before .before .before .before .before .before .before)) (c .before .before .before .before .before .before .decision2 .given .1) (c .before .before .before .before .before .before .before .before .before .before .before .before .before .before .before .before .before .before .slot .ensures) (next-number (c .before .before .before .before .before .before)) (c .before .before .before .with-newest .ensures) (c .before .before .before .before .entry3 .ensures)
-    (c .enum-told .given .1) refl (c .before .before .after .ensures) (c .before .before .before .before .before .before .before .before .answer .ensures)
+returns-2 c = stored (c .before .before) _ _ (c .enum-told .given .1) refl
 
 returns-3 : tie.Need-returns-3 Inv-loop μ-loop
 unfolding answerOf
-returns-3 c = rw (post-refused (c .before .before .before .before .before .before .before .before .before .before .before .before .before .before .args .t1) (c .before .before .before .before .before .before .before .before .before .before .before .before .before .before .args .raw) (c .enum-told2 .given .0 .0) (sym (decision-is (c .before .before .before .before)) ∙ c .enum-told2 .given .1))
+returns-3 c =
+    let d : Decided = c .before .before .before .before in
+    let s = searched d in
+    rw (post-refused (book s) (given s) (c .enum-told2 .given .0 .0) (sym (decision-is d) ∙ c .enum-told2 .given .1))
     (simp (c .before .before .answer .ensures, c .enum-told2 .given .1))
 
 pub post-spec : {M : Type 1} → statement M
@@ -117,5 +204,7 @@ post-spec =
     tie.close (tie.spec Inv-loop μ-loop (λ c κs. search needs) mul-account element-copy-out-account (λ c κs. search needs) loop-holds
     (λ c κs. search needs) (λ c κs. search needs) mul-entry element-copy-out-entry (λ c κs. search needs) loop-less loop-again (λ c κs. search needs)
     mul-entry-2 element-copy-out-entry-2 (λ c κs. search needs) (λ c κs. search needs) (λ c κs. search needs) (λ c. search needs)
-    (λ c κs. search needs) cast-t32 mul-t33 element-set-from-self (λ c κs. search needs) mul-t32 element-set-from-self-2 (λ c κs. search needs)
-    (λ c. search needs) (λ c κs. search needs) mul-t41 element-set-from-self-3 (λ c. search needs) (λ c. search needs) returns returns-2 returns-3)
+    (λ c κs. search needs) (λ c. let h = not-full (c .before .before) in omega arith) (λ c. let h = not-full (c .before .before) in omega arith)
+    element-set-from-self (λ c κs. search needs) (λ c. let h = slot-in c in omega arith) element-set-from-self-2 (λ c κs. search needs)
+    (λ c. search needs) (λ c κs. search needs) (λ c. let h = inside (c .before .before) in omega arith) element-set-from-self-3 (λ c. search needs)
+    (λ c. search needs) returns returns-2 returns-3)

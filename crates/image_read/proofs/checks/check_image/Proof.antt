@@ -11,7 +11,9 @@ returns c = let accepted = sym (c .before .before .load .ensures) ∙ ap (loaded
 
 returns-2 : tie.Need-returns-2
 unfolding loadedReply
-returns-2 c = let refused = sym (c .before .before .before .before .load .ensures) ∙ ap (loadedWith (c .before .before .before .before .load .result .book)) (c .before .before .answer .given .1) in rw (c .number .ensures) (ap checkGiven (sym refused))
+returns-2 c =
+    let refused = sym (c .before .before .before .before .load .ensures) ∙ ap (loadedWith (c .before .before .before .before .load .result .book))
+    (c .before .before .answer .given .1) in rw (c .number .ensures) (ap checkGiven (sym refused))
 
 pub check-image-spec : {M : Type 1} → statement M
 check-image-spec = tie.close (tie.spec (λ c κs. search needs) (λ c. search needs) (λ c. search needs) (λ c κs. search needs) returns returns-2)

@@ -40,10 +40,18 @@ element-copy-out-entry : tie.Need-element-copy-out-entry Inv-loop μ-loop
 element-copy-out-entry c = omega (arith, place-inside (c .before .before .before .loop .search .at), c .place .ensures)
 
 loop-less : tie.Need-loop-less Inv-loop μ-loop
-loop-less c = rw (c .look .ensures) (nearer (c .before .before .before .before .before .before .loop .search) _ _ (sym (c .before .before .before .before .before .goes-on .ensures) ∙ c .before .before .before .before .if1 .taken))
+loop-less c =
+    rw (c .look .ensures) (nearer (c .before .before .before .before .before .before .loop .search) _ _
+    (sym (c .before .before .before .before .before .goes-on .ensures) ∙ c .before .before .before .before .if1 .taken))
 
 loop-again : tie.Need-loop-again Inv-loop μ-loop
-loop-again c = rw (c .look .ensures, c .before .carries .ensures, c .before .before .before .place .ensures) (past (c .before .before .before .before .before .before .before .before .before .before .before .before .before .args .t1 .entries) (carries (c .before .before .before .before .before .before .before .before .before .before .before .before .before .args .node) (c .before .before .before .before .before .before .before .before .before .before .before .before .before .args .serial)) (c .before .before .before .before .before .before .loop .search) (sym (c .before .before .before .before .before .goes-on .ensures) ∙ c .before .before .before .before .if1 .taken) ∙ c .before .before .before .before .before .before .loop .inv)
+loop-again c =
+    let c₈ = c .before .before .before .before .before .before .before .before in
+    let a = c₈ .before .before .before .before .before .args in
+    rw (c .look .ensures, c .before .carries .ensures, c .before .before .before .place .ensures)
+    (past (a .t1 .entries) (carries (a .node) (a .serial)) (c .before .before .before .before .before .before .loop .search)
+    (sym (c .before .before .before .before .before .goes-on .ensures) ∙ c .before .before .before .before .if1 .taken) ∙
+    c .before .before .before .before .before .before .loop .inv)
 
 mul-entry-2 : tie.Need-mul-entry-2 Inv-loop μ-loop
 mul-entry-2 c = omega (arith, place-inside (c .before .before .before .loop .search .at), c .place2 .ensures)
@@ -53,7 +61,10 @@ element-copy-out-entry-2 c = omega (arith, place-inside (c .before .before .befo
 
 -- what is known of the entry that the search ends in
 known : (c : tie.Else1 Inv-loop μ-loop) → let s = c .before .before .loop .search in let b = c .before .before .before .before .before .before .before .before .before .args .t1 in
-    knownOf (soughtAt (foundOf s) (getD (b .entries) (placeOf (s .at)) noEntry)) ≡ contributionQueryOf b (c .before .before .before .before .before .before .before .before .before .args .account) (c .before .before .before .before .before .before .before .before .before .args .node) (c .before .before .before .before .before .before .before .before .before .args .serial)
+    knownOf (soughtAt (foundOf s) (getD (b .entries)
+    (placeOf (s .at)) noEntry)) ≡ contributionQueryOf b (c .before .before .before .before .before .before .before .before .before .args .account)
+    (c .before .before .before .before .before .before .before .before .before .args .node)
+    (c .before .before .before .before .before .before .before .before .before .args .serial)
 unfolding decidedOf contributionQueryOf
 known c =
     let sought = ends _ _ _ (sym (c .before .goes-on .ensures) ∙ c .if1 .left) ∙ c .before .before .loop .inv in

@@ -14,7 +14,8 @@ use Rattle.queries.proofs.statements.statement.Statement.{statement}
 use Rattle.queries.proofs.statements.statement.Tie as tie
 
 abbrev Inv-loop : tie.InvT-loop
-Inv-loop account allowance book a own at₀ sums₀ left₀ at sums left = sumsOver allowance sums (entriesIn (walkOf (book .entries) left at)) ≡ sumsOver allowance noSums (entriesIn (walkOf (book .entries) entriesMost at₀))
+Inv-loop account allowance book a own at₀ sums₀ left₀ at sums left =
+    sumsOver allowance sums (entriesIn (walkOf (book .entries) left at)) ≡ sumsOver allowance noSums (entriesIn (walkOf (book .entries) entriesMost at₀))
 
 abbrev μ-loop : tie.MeasureT-loop
 μ-loop account allowance book a own at₀ sums₀ left₀ at sums left = left
@@ -24,8 +25,8 @@ linked : (c : tie.Else2 Inv-loop μ-loop) → (0 < c .before .before .before .lo
 linked c = link-inside (c .before .before .before .loop .at) (sym (c .before .ends .ensures) ∙ c .if2 .left)
 
 -- after the walk: the sums over the whole chain
-walked : (c : tie.After-loop Inv-loop μ-loop) →
-    c .before .loop .sums ≡ sumsOver (c .before .before .before .before .before .before .before .args .allowance) noSums (chainAt (c .before .before .before .before .before .before .before .args .t1) (c .before .before .before .before .before .before .before .args .account))
+walked : (c : tie.After-loop Inv-loop μ-loop) → let a = c .before .before .before .before .before .before .before .args in
+    c .before .loop .sums ≡ sumsOver (a .allowance) noSums (chainAt (a .t1) (a .account))
 walked c =
     let h : c .before .loop .left ≡ 0 = omega arith in
     simp (h, walk-none, c .before .before .before .before .slot .ensures) at (c .before .loop .inv)
@@ -43,7 +44,10 @@ loop-holds : tie.Need-loop-holds Inv-loop μ-loop
 loop-holds c = rw (c .none .ensures) refl
 
 loop-again : tie.Need-loop-again Inv-loop μ-loop
-loop-again c = let here = walk-ends (c .before .before .before .before .before .before .before .before .before .args .t1 .entries) (c .before .before .before .loop .at) (c .before .before .loop-test .taken) (sym (c .before .ends .ensures) ∙ c .if2 .taken) in
+loop-again c =
+    let c₈ = c .before .before .before .before .before .before .before .before in
+    let here = walk-ends (c₈ .before .args .t1 .entries) (c .before .before .before .loop .at) (c .before .before .loop-test .taken)
+    (sym (c .before .ends .ensures) ∙ c .if2 .taken) in
     rw walk-none (rw here at (c .before .before .before .loop .inv))
 
 cast-i : tie.Need-cast-i Inv-loop μ-loop
@@ -59,12 +63,23 @@ element-copy-out-entry : tie.Need-element-copy-out-entry Inv-loop μ-loop
 element-copy-out-entry c = let h = linked c in omega arith
 
 loop-again-2 : tie.Need-loop-again-2 Inv-loop μ-loop
-loop-again-2 c = let here = walk-link (c .before .before .before .before .before .before .before .before .before .before .before .args .t1 .entries) (c .before .before .before .before .before .loop .at) (c .before .before .before .before .loop-test .taken) (sym (c .before .before .before .ends .ensures) ∙ c .before .before .if2 .left) in
-    rw (c .with .ensures) (rw (here, place-link _ (sym (c .before .before .before .ends .ensures) ∙ c .before .before .if2 .left)) at (c .before .before .before .before .before .loop .inv))
+loop-again-2 c =
+    let c₈ = c .before .before .before .before .before .before .before .before in
+    let here = walk-link (c₈ .before .before .before .args .t1 .entries) (c .before .before .before .before .before .loop .at)
+    (c .before .before .before .before .loop-test .taken) (sym (c .before .before .before .ends .ensures) ∙ c .before .before .if2 .left) in
+    rw (c .with .ensures) (rw (
+      here,
+      place-link _
+          (sym (c .before .before .before .ends .ensures) ∙ c .before .before .if2 .left),
+    ) at (c .before .before .before .before .before .loop .inv))
 
 returns-2 : tie.Need-returns-2 Inv-loop μ-loop
-returns-2 c = rw (c .figures .ensures, c .before .before .before .before .before .slot .ensures)
-    (given (c .before .before .before .before .before .before .before .before .args .t1) (c .before .before .before .before .before .before .before .before .args .account) (c .before .before .before .before .before .before .before .before .args .allowance) _ (sym (c .before .before .before .before .before .before .before .within .ensures) ∙ not-false _ (c .before .before .before .before .before .before .if1 .left)) (walked (c .before)))
+returns-2 c =
+    let a = c .before .before .before .before .before .before .before .before .args in
+    rw (c .figures .ensures, c .before .before .before .before .before .slot .ensures)
+    (given (a .t1) (a .account) (a .allowance) _
+    (sym (c .before .before .before .before .before .before .before .within .ensures) ∙ not-false _
+    (c .before .before .before .before .before .before .if1 .left)) (walked (c .before)))
 
 pub statement-spec : {M : Type 1} → statement M
 statement-spec =

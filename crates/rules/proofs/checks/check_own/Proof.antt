@@ -5,7 +5,14 @@ use Rattle.rules.proofs.checks.check_own.Tie as tie
 
 returns : tie.Need-returns
 unfolding checkOwnOf
-returns c = simp (c .refuse-if2 .ensures, c .before .both .ensures, c .before .before .is .ensures, c .before .before .before .refuse-if .ensures, c .before .before .before .before .deposit-clash .ensures)
+returns c =
+    simp (
+      c .refuse-if2 .ensures,
+      c .before .both .ensures,
+      c .before .before .is .ensures,
+      c .before .before .before .refuse-if .ensures,
+      c .before .before .before .before .deposit-clash .ensures,
+    )
 
 pub check-own-spec : {M : Type 1} → statement M
 check-own-spec =

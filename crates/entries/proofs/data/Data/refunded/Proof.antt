@@ -6,7 +6,9 @@ use Rattle.entries.proofs.data.Data.refunded.Tie as tie
 
 returns : tie.Need-returns
 unfolding caseOf refundedOf
-returns c = rw (c .before .before .before .before .before .self .given .1) (simp (c .one-more .ensures, c .before .plus2 .ensures, c .before .before .plus .ensures, c .before .before .before .minus .ensures))
+returns c =
+    rw (c .before .before .before .before .before .self .given .1)
+    (simp (c .one-more .ensures, c .before .plus2 .ensures, c .before .before .plus .ensures, c .before .before .before .minus .ensures))
 
 returns-2 : tie.Need-returns-2
 unfolding refundedOf

@@ -120,7 +120,9 @@ module _ (b₀ : Book) (xs : List Raw) (rs : List ℕ) where
         ∙ ap (λ (l : List ℕ). l ++ drop (t .i) rs) told ∙ ap (λ (k : ℕ). refusalsOf b₀ xs ++ drop k rs) all
       where
         told : take (t .i) (t .zs) ≡ refusalsOf b₀ xs
-        told = sym (append-nil (take (t .i) (t .zs))) ∙ ap (λ (l : List ℕ). take (t .i) (t .zs) ++ l) (sym (refusals-end (t .book) xs) ∙ ap (λ (k : ℕ). refusalsOf (t .book) (drop k xs)) (sym all)) ∙ t .said
+        told =
+            sym (append-nil (take (t .i) (t .zs))) ∙ ap (λ (l : List ℕ). take (t .i) (t .zs) ++ l)
+            (sym (refusals-end (t .book) xs) ∙ ap (λ (k : ℕ). refusalsOf (t .book) (drop k xs)) (sym all)) ∙ t .said
 
     long : shortOf xs rs ≡ false
     long = le-ltb (length rs) (length xs) fit
