@@ -15,8 +15,8 @@ abbrev pub rateMost : ℕ
 rateMost = 2000
 
 -- the days in a bill's period
-abbrev pub periodMost : ℕ
-periodMost = 62
+abbrev pub billPeriodMost : ℕ
+billPeriodMost = 62
 
 abbrev pub row : ℕ → ℕ → Bool → ℕ → ℕ → Bool → ℕ → Limits
 row amountLow amountHigh named aLow aHigh phases bHigh =
@@ -35,7 +35,7 @@ row amountLow amountHigh named aLow aHigh phases bHigh =
 unfoldable pub limitsOf : Kind → ℕ → Limits
 limitsOf kind.Contribution a = row 1 amountMost false 1 65535 true 0
 limitsOf kind.AddedCustomer a = row 0 0 true 1 65535 true 0
-limitsOf kind.Bill a = row 1 amountMost false 1 periodMost false a
+limitsOf kind.Bill a = row 1 amountMost false 1 billPeriodMost false a
 limitsOf kind.Payment a = row 1 amountMost false 0 0 false 0
 limitsOf kind.Deposit a = row 1 amountMost false 0 rateMost false 0
 limitsOf kind.DepositReturn a = row 0 0 false 0 0 false 0

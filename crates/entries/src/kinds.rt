@@ -72,7 +72,7 @@ impl Kind {
     pub const RATE_MOST: u16 = 2000;
 
     // The days in a bill's period.
-    pub const PERIOD_MOST: u16 = 62;
+    pub const BILL_PERIOD_MOST: u16 = 62;
 
     // The kind of a number.
     pub fn of(number: u8) -> Kind
@@ -140,7 +140,15 @@ impl Kind {
         match self {
             Kind::Contribution => Limits::row(1, Kind::AMOUNT_MOST, false, 1, 65535, true, 0),
             Kind::AddedCustomer => Limits::row(0, 0, true, 1, 65535, true, 0),
-            Kind::Bill => Limits::row(1, Kind::AMOUNT_MOST, false, 1, Kind::PERIOD_MOST, false, a),
+            Kind::Bill => Limits::row(
+                1,
+                Kind::AMOUNT_MOST,
+                false,
+                1,
+                Kind::BILL_PERIOD_MOST,
+                false,
+                a,
+            ),
             Kind::Payment => Limits::row(1, Kind::AMOUNT_MOST, false, 0, 0, false, 0),
             Kind::Deposit => Limits::row(1, Kind::AMOUNT_MOST, false, 0, Kind::RATE_MOST, false, 0),
             Kind::DepositReturn => Limits::row(0, 0, false, 0, 0, false, 0),

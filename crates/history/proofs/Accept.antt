@@ -8,7 +8,7 @@ use lib.ListN.{length}
 use lib.Dec.{eqb, leb, ltb}
 use borrow.Author.Tests.{ltb-false, leb-true, leb-false, eqb-true, not-false}
 use Rattle.entries.specs.Kinds.{kindOf, sameOf}
-use Rattle.entries.specs.Ranges.{amountMost, periodMost, limitsOf, bFits, inRangeOf}
+use Rattle.entries.specs.Ranges.{amountMost, billPeriodMost, limitsOf, bFits, inRangeOf}
 use Rattle.entries.specs.declared.raw.Raw.{Raw}
 use Rattle.entries.specs.declared.kinds.Kind.{Kind}
 use Rattle.entries.specs.declared.kinds.Kind.the-variants as kind
@@ -53,15 +53,15 @@ highs : (a : ℕ) (k : Kind) → let l = limitsOf k a in (l .«amount_high» ≤
 unfolding limitsOf
 highs a = every-kind _ (omega arith)
 
-b-high : (a : ℕ) (k : Kind) → a ≤ limitsOf k a .«a_high» → limitsOf k a .«b_high» ≤ periodMost
+b-high : (a : ℕ) (k : Kind) → a ≤ limitsOf k a .«a_high» → limitsOf k a .«b_high» ≤ billPeriodMost
 unfolding limitsOf
 b-high a = every-kind _ (omega arith)
 
-b-fits : (r : Raw) (phases : Bool) (high : ℕ) → high ≤ periodMost → bFits r phases high ≡ true → r .b ≤ periodMost
+b-fits : (r : Raw) (phases : Bool) (high : ℕ) → high ≤ billPeriodMost → bFits r phases high ≡ true → r .b ≤ billPeriodMost
 unfolding bFits
 b-fits r true high l e = go (eqb (r .b) 1) refl e
   where
-    go : (t : Bool) → eqb (r .b) 1 ≡ t → (t || eqb (r .b) 3) ≡ true → r .b ≤ periodMost
+    go : (t : Bool) → eqb (r .b) 1 ≡ t → (t || eqb (r .b) 3) ≡ true → r .b ≤ billPeriodMost
     go true p q = omega (arith, eqb-true (r .b) 1 p)
     go false p q = omega (arith, eqb-true (r .b) 3 q)
 b-fits r false high l e = omega (arith, leb-true (r .b) high e)
@@ -70,7 +70,7 @@ pub record FieldsInRange (r : Raw) (k : Kind) : Type 0 where
   pub amount : r .amount ≤ amountMost
   pub a : r .a ≤ 65535
   pub by-kind : Ranged r k
-  pub b : r .b ≤ periodMost
+  pub b : r .b ≤ billPeriodMost
 
 in-range : (r : Raw) (k : Kind) → inRangeOf r k ≡ true → FieldsInRange r k
 in-range r k e =

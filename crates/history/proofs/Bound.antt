@@ -8,7 +8,7 @@ use mathlib.Core.List.{[], _∷_}
 use lib.ListN.{length}
 use lib.Dec.{eqb}
 use Rattle.entries.specs.Kinds.{kindOf, sameOf}
-use Rattle.entries.specs.Ranges.{amountMost, limitsOf, rateMost, periodMost}
+use Rattle.entries.specs.Ranges.{amountMost, limitsOf, rateMost, billPeriodMost}
 use Rattle.entries.specs.declared.raw.Raw.{Raw}
 use Rattle.entries.specs.declared.kinds.Kind.{Kind}
 use Rattle.entries.specs.declared.kinds.Kind.the-variants as kind
@@ -27,9 +27,9 @@ pub in-ranges : {h : History} → Valid h → (e : Raw) → In e h → FieldsInR
 in-ranges (joins {r} {h} v j) e (newest q) = subst (λ (x : Raw). FieldsInRange x (kindOf (x .kind))) q (accepts h r j .ranges)
 in-ranges (joins v j) e (older t) = in-ranges v e t
 
-pub billed-small : (charge served days : ℕ) → charge ≤ amountMost → served ≤ periodMost → days ≤ 65535 → billed charge served days ≤ large
+pub billed-small : (charge served days : ℕ) → charge ≤ amountMost → served ≤ billPeriodMost → days ≤ 65535 → billed charge served days ≤ large
 billed-small charge served days c s d =
-    let p : charge * served ≤ amountMost * periodMost = mul-le-mul c s in
+    let p : charge * served ≤ amountMost * billPeriodMost = mul-le-mul c s in
     omega (arith, div-le-self (2 * (charge * served) + days) (2 * days))
 
 pub interest-small : (deposit rate days : ℕ) → deposit ≤ amountMost → rate ≤ rateMost → days ≤ lastDay → interest deposit rate days ≤ large

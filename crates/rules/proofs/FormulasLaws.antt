@@ -10,7 +10,7 @@ use Rattle.measures.specs.Cents.{cents, most}
 use Rattle.measures.specs.declared.Cents.{Cents}
 use Rattle.measures.specs.Rounding.{rounded}
 use Rattle.measures.proofs.Rounding.{rounds, floors}
-use Rattle.entries.specs.Ranges.{amountMost, limitsOf, bFits, inRangeOf, rateMost, periodMost}
+use Rattle.entries.specs.Ranges.{amountMost, limitsOf, bFits, inRangeOf, rateMost, billPeriodMost}
 use Rattle.entries.specs.Data.{metres}
 use Rattle.entries.specs.declared.raw.Raw.{Raw}
 use Rattle.entries.specs.declared.kinds.Kind.the-variants as kind
@@ -39,7 +39,7 @@ unfolding limitsOf bFits
 served-fits r e =
     let s = ranged r kind.Bill e in
     let b : r .b ≤ r .a = leb-true (r .b) (r .a) (s .b) in
-    let a : r .a ≤ periodMost = s .a .1 in
+    let a : r .a ≤ billPeriodMost = s .a .1 in
     omega arith
 
 pub plain-entries : PlainEntries
