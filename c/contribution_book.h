@@ -5,7 +5,7 @@
  * is CONTRIBUTION_BOOK_FRESH; every other one is written by contribution_book_post or contribution_book_carry_over.
  *
  * Every call returns, for every input, a struct whose first members are
- *   refusal  0 where the call is accepted, else the refusal number of document 01
+ *   refusal  0 where the call is accepted, else the refusal number of document 01 or of a change request
  *   record   where the image is refused, the number of its record at fault, from 1; 0 where no record is at fault, and 0
  *            where the image is accepted, whether or not the call then is
  * A refused call has zeros in every other member, and writes nothing. An accepted one writes its result at the start of
@@ -48,7 +48,7 @@ struct contribution_book_check_given {
  * Checks an image.
  * Takes    the image.
  * Gives    the number of its entries.
- * Refuses  the image, by 17 to 19, or by 1 to 16 and 20 with the record at fault.
+ * Refuses  the image, by 17 to 19, or by 1 to 16, 20 and 24 to 26 with the record at fault.
  * Leaves   nothing: it writes to no buffer.
  */
 struct contribution_book_check_given contribution_book_check(const uint8_t *image, size_t image_length);
@@ -68,8 +68,8 @@ struct contribution_book_posting_given {
  * Posts one entry.
  * Takes    the image, and the entry as a record, whose next index is not read.
  * Gives    the entry's number, the four amounts of its answer, and the length of the next image.
- * Refuses  the image; then the entry by 17 where it hasn't 24 bytes, and by 1 to 16; then by 21 an output that is shorter
- *          than the next image.
+ * Refuses  the image; then the entry by 17 where it hasn't 24 bytes, and by 1 to 16 and 24 to 26; then by 21 an output that
+ *          is shorter than the next image.
  * Leaves   the next image at the start of the output, which must not overlap the image or the entry.
  */
 struct contribution_book_posting_given contribution_book_post(const uint8_t *image, size_t image_length,

@@ -1,4 +1,5 @@
-//! A plain Rust contribution book, written from document 01 alone.
+//! A plain Rust contribution book, written from document 01 and its change
+//! requests alone.
 //!
 //! Amounts are whole cents, days count from 2000-01-01, lengths are whole
 //! metres. A refusal number of 0 means accepted.
@@ -29,6 +30,13 @@ pub const MAX_RATE: u16 = 2_000;
 /// The days after a contribution from which an expiry may come and an added
 /// customer may not.
 pub const REFUND_PERIOD: u16 = 1_826;
+/// The days after a guarantee from which a retention may come.
+pub const GUARANTEE_PERIOD: u16 = 1_826;
+/// The days after a guarantee or its last reduction from which the next one may
+/// come.
+pub const REDUCTION_INTERVAL: u16 = 365;
+/// The days whose payments a reduction counts; its own is the last.
+pub const WINDOW_DAYS: u16 = 365;
 
 pub const CONTRIBUTION: u8 = 1;
 pub const ADDED_CUSTOMER: u8 = 2;
@@ -38,8 +46,11 @@ pub const DEPOSIT: u8 = 5;
 pub const DEPOSIT_RETURN: u8 = 6;
 pub const EXPIRY: u8 = 7;
 pub const CORRECTION: u8 = 8;
+pub const GUARANTEE: u8 = 9;
+pub const REDUCTION: u8 = 10;
+pub const RETENTION: u8 = 11;
 /// Kinds are numbered from 1 to this.
-pub const LAST_KIND: u8 = CORRECTION;
+pub const LAST_KIND: u8 = RETENTION;
 
 /// An entry as it is offered to the book, its fields unchecked.
 #[derive(Clone, Copy, Debug, Default, PartialEq, Eq)]
@@ -88,18 +99,20 @@ struct Entry {
     standing: u64,
     /// Bill or payment: a correction named it.
     corrected: bool,
-    /// Contribution: the amount still held.
+    /// Contribution or guarantee: the amount still held.
     held: u64,
-    /// Contribution: refunds to arrears.
+    /// Contribution or guarantee: refunds or reductions to arrears.
     to_arrears: u64,
-    /// Contribution: refunds paid out.
+    /// Contribution or guarantee: refunds or reductions paid out.
     paid_out: u64,
-    /// Contribution: the amount its expiry retained.
+    /// Contribution or guarantee: the amount its expiry or retention retained.
     retained: u64,
     /// Contribution: added customers accepted.
     added: u16,
-    /// Contribution: an expiry closed it.
+    /// Contribution or guarantee: an expiry or a retention closed it.
     closed: bool,
+    /// Guarantee: the day of its last reduction; its own where there is none.
+    reduced: u16,
 }
 
 impl Entry {
@@ -131,6 +144,7 @@ impl Entry {
             retained: 0,
             added: 0,
             closed: false,
+            reduced: 0,
         }
     }
 }
@@ -146,6 +160,8 @@ struct Account {
     rate: u16,
     /// The held deposit's day.
     deposited: u16,
+    /// A guarantee of the account is open.
+    guarantee_open: bool,
     /// The number of the account's newest entry; zero where it has none.
     newest: u16,
 }
@@ -157,6 +173,7 @@ impl Account {
         deposit: 0,
         rate: 0,
         deposited: 0,
+        guarantee_open: false,
         newest: 0,
     };
 

@@ -9,11 +9,14 @@ pub fn entry(kind: u8, account: u16, serial: u32, named_serial: u32) -> Raw {
         CONTRIBUTION => (0, 300_000, 0, 200, 1),
         ADDED_CUSTOMER => (100, 0, named_serial, 100, 1),
         BILL => (0, 10_000, 0, 30, 7),
-        PAYMENT => (0, 2_500, 0, 0, 0),
+        PAYMENT => (1, 2_500, 0, 0, 0),
         DEPOSIT => (0, 30_000, 0, 520, 0),
         DEPOSIT_RETURN => (365, 0, 0, 0, 0),
-        EXPIRY => (1_826, 0, named_serial, 0, 0),
-        _ => (0, 2_000, named_serial, 0, 0),
+        CORRECTION => (1, 2_000, named_serial, 0, 0),
+        GUARANTEE => (0, 50_000, 0, 0, 0),
+        REDUCTION => (365, 0, named_serial, 0, 0),
+        // An expiry or a retention.
+        _ => (1_826, 0, named_serial, 0, 0),
     };
     Raw {
         kind,
@@ -33,6 +36,7 @@ pub fn entry(kind: u8, account: u16, serial: u32, named_serial: u32) -> Raw {
 pub fn named_kind(kind: u8) -> u8 {
     match kind {
         CORRECTION => BILL,
+        REDUCTION | RETENTION => GUARANTEE,
         _ => CONTRIBUTION,
     }
 }

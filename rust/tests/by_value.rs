@@ -3,6 +3,8 @@
 use contribution_book::{by_value, plain, plain::*, samples};
 use std::collections::BTreeSet;
 
+const KINDS: u32 = LAST_KIND as u32;
+
 /// A sequence of numbers that look random, the same for each seed.
 struct Numbers(u64);
 
@@ -18,9 +20,9 @@ impl Numbers {
 fn entries(seed: u64) -> Vec<Raw> {
     let mut numbers = Numbers(seed);
     let mut entry = |serial: u32| {
-        let kind = ((serial - 1) % 8) as u8 + 1;
-        let turn = numbers.below((serial - 1) / 8 + 1);
-        let named_serial = 8 * turn + u32::from(samples::named_kind(kind));
+        let kind = ((serial - 1) % KINDS) as u8 + 1;
+        let turn = numbers.below((serial - 1) / KINDS + 1);
+        let named_serial = KINDS * turn + u32::from(samples::named_kind(kind));
         let account = numbers.below(2) as u16 + 1;
         Raw {
             day: numbers.below(5_000) as u16,
@@ -81,8 +83,10 @@ fn the_lists_have_accepted_and_refused_entries() {
             _ => refusals.insert(refusal),
         };
     }
-    assert!(accepted.into_iter().eq(CONTRIBUTION..=CORRECTION));
-    assert!(refusals.into_iter().eq([8, 9, 10, 11, 12, 13, 16]));
+    assert!(accepted.into_iter().eq(CONTRIBUTION..=LAST_KIND));
+    assert!(refusals
+        .into_iter()
+        .eq([8, 9, 10, 11, 12, 13, 16, 24, 25, 26]));
 }
 
 #[test]

@@ -1,7 +1,8 @@
-//! Document 01's figures and refusals against the plain book. Expected values
-//! are worked out from document 01.
+//! The figures and refusals of document 01 and its change requests against the
+//! plain book. Expected values are worked out from these documents.
 
 use contribution_book::plain::*;
+use contribution_book::printer::write_account;
 
 /// An entry of node 1 and account 5 on day 0; a test sets the other fields.
 fn entry(kind: u8, serial: u32) -> Raw {
@@ -75,6 +76,29 @@ fn correction(serial: u32, named_serial: u32, amount: u32) -> Raw {
         named_serial,
         amount,
         ..entry(CORRECTION, serial)
+    }
+}
+
+fn guarantee(serial: u32, amount: u32) -> Raw {
+    Raw {
+        amount,
+        ..entry(GUARANTEE, serial)
+    }
+}
+
+fn reduction(serial: u32, named_serial: u32) -> Raw {
+    Raw {
+        named_node: 1,
+        named_serial,
+        ..entry(REDUCTION, serial)
+    }
+}
+
+fn retention(serial: u32, named_serial: u32) -> Raw {
+    Raw {
+        named_node: 1,
+        named_serial,
+        ..entry(RETENTION, serial)
     }
 }
 
@@ -318,6 +342,9 @@ fn an_image_of_every_kind_loads_as_saved() {
         on(365, deposit_return(6)),
         on(1_826, expiry(7, 1)),
         correction(8, 2, 41_000),
+        guarantee(9, 50_000),
+        on(365, reduction(10, 9)),
+        on(1_826, retention(11, 9)),
         Raw {
             node: 2,
             account: 128,
@@ -339,7 +366,7 @@ fn all_refused(entries: &[Raw], refusal: u8) {
 #[test]
 fn refusals_1_to_4_common_fields() {
     let good = payment(1, 1);
-    all_refused(&[0, LAST_KIND + 1, 255].map(|kind| Raw { kind, ..good }), 1);
+    all_refused(&[0, 12, 255].map(|kind| Raw { kind, ..good }), 1);
     all_refused(&[0, 3].map(|node| Raw { node, ..good }), 2);
     all_refused(&[0, 129].map(|account| Raw { account, ..good }), 3);
     all_refused(&[on(36_525, good)], 4);
@@ -519,7 +546,7 @@ fn refusal_19_count() {
         bytes[4] = low;
         bytes[5] = high;
         // 19 comes before the records.
-        bytes[24] = 9;
+        bytes[24] = LAST_KIND + 1;
         load_refused(&bytes, 19, 0);
     }
 }
@@ -540,7 +567,7 @@ fn refusal_20_next_index() {
         let mut bytes = good.clone();
         bytes[24 * record + 6] = next;
         load_refused(&bytes, 20, record as u16);
-        // 1 to 16 come before 20 in the same record.
+        // What a posting is refused by comes before 20 in the same record.
         bytes[24 * record] = LAST_KIND + 1;
         load_refused(&bytes, 1, record as u16);
     }
@@ -660,4 +687,398 @@ fn contribution_query_refusals() {
         };
         assert_eq!(book.contribution_query(account, node, serial), expected);
     }
+}
+
+#[test]
+fn a_reduction_counts_the_payments_of_365_days() {
+    let mut book = book(&[
+        on(1_000, guarantee(1, 100_000)),
+        on(1_635, payment(2, 10_000)),
+        on(1_636, payment(3, 2_000)),
+        on(2_000, payment(4, 300)),
+        on(2_001, payment(5, 40)),
+        Raw {
+            node: 2,
+            ..on(1_800, payment(1, 5_000))
+        },
+        Raw {
+            account: 6,
+            ..on(1_800, payment(6, 600_000))
+        },
+    ]);
+    // 2,000 + 300 + 5,000 count. What is paid out is no credit.
+    let raw = on(2_000, reduction(7, 1));
+    assert_eq!(accepted(&mut book, raw), [0, 730, 0, 0]);
+    assert_eq!(balance(&book), (0, 17_340));
+    let rest = on(2_826, retention(8, 1));
+    assert_eq!(accepted(&mut book, rest), [0, 0, 99_270, 0]);
+}
+
+#[test]
+fn a_reduction_counts_payments_as_they_stand_at_its_posting() {
+    let mut book = book(&[
+        guarantee(1, 100_000),
+        on(10, payment(2, 700)),
+        on(100, payment(3, 5_000)),
+        on(380, payment(4, 1_000)),
+        // The days of the payments count: 10 is outside, 100 inside.
+        on(200, correction(5, 2, 900)),
+        on(900, correction(6, 3, 3_000)),
+    ]);
+    let raw = on(400, reduction(7, 1));
+    assert_eq!(accepted(&mut book, raw), [0, 400, 0, 0]);
+    accepted(&mut book, on(400, correction(8, 4, 9_000)));
+    accepted(&mut book, on(390, payment(9, 70)));
+    let rest = on(1_826, retention(10, 1));
+    assert_eq!(accepted(&mut book, rest), [0, 0, 99_600, 0]);
+}
+
+#[test]
+fn the_next_reduction_counts_the_next_365_days() {
+    let mut book = book(&[guarantee(1, 100_000), on(365, payment(2, 1_000))]);
+    let first = on(365, reduction(3, 1));
+    assert_eq!(accepted(&mut book, first), [0, 100, 0, 0]);
+    accepted(&mut book, on(366, payment(4, 2_000)));
+    accepted(&mut book, on(366, correction(5, 4, 50)));
+    // The window of the second begins on day 366.
+    let second = on(730, reduction(6, 1));
+    assert_eq!(accepted(&mut book, second), [0, 5, 0, 0]);
+}
+
+#[test]
+fn a_reduction_is_a_tenth_of_the_sum_rounded_down() {
+    let figures: [(&[u32], u64); 7] = [
+        (&[], 0),
+        (&[9], 0),
+        (&[10], 1),
+        (&[19], 1),
+        (&[5, 5], 1),
+        (&[9, 9, 9], 2),
+        (&[100_000_000, 99_999_999], 19_999_999),
+    ];
+    for (amounts, tenth) in figures {
+        let mut book = book(&[guarantee(1, 50_000_000)]);
+        for (&amount, serial) in amounts.iter().zip(2..) {
+            accepted(&mut book, on(300, payment(serial, amount)));
+        }
+        let raw = on(365, reduction(9, 1));
+        assert_eq!(accepted(&mut book, raw), [0, tenth, 0, 0], "{amounts:?}");
+    }
+}
+
+#[test]
+fn a_reduction_gives_back_what_is_held_at_most() {
+    let mut book = book(&[
+        guarantee(1, 700),
+        on(100, payment(2, 5_000)),
+        on(600, payment(3, 5_000)),
+        on(900, payment(4, 5_000)),
+    ]);
+    let reductions = [(365, 500), (730, 200), (1_095, 0)];
+    for ((day, amount), serial) in reductions.into_iter().zip(5..) {
+        let raw = on(day, reduction(serial, 1));
+        assert_eq!(accepted(&mut book, raw), [0, amount, 0, 0]);
+    }
+    let rest = on(1_826, retention(8, 1));
+    assert_eq!(accepted(&mut book, rest), [0; 4]);
+}
+
+#[test]
+fn payments_of_a_year_need_more_than_32_bits() {
+    let mut book = book(&[guarantee(1, 100_000_000)]);
+    for serial in 2..=44 {
+        accepted(&mut book, on(1, payment(serial, 100_000_000)));
+    }
+    // A tenth of 4,300,000,000 is more than is held.
+    let raw = on(365, reduction(45, 1));
+    assert_eq!(accepted(&mut book, raw), [0, 100_000_000, 0, 0]);
+}
+
+#[test]
+fn a_reduction_settles_arrears_first() {
+    let paid = [guarantee(1, 50_000), on(200, payment(2, 8_000))];
+    // Bill, settled, paid out, arrears, credit.
+    let figures = [
+        (8_000, 0, 800, 0, 0),
+        (7_000, 0, 800, 0, 1_000),
+        (8_600, 600, 200, 0, 0),
+        (8_800, 800, 0, 0, 0),
+        (8_900, 800, 0, 100, 0),
+    ];
+    for (charge, settled, paid_out, arrears, credit) in figures {
+        let mut book = book(&paid);
+        accepted(&mut book, bill(3, charge, 1, 1));
+        let raw = on(365, reduction(4, 1));
+        assert_eq!(accepted(&mut book, raw), [settled, paid_out, 0, 0]);
+        assert_eq!(balance(&book), (arrears, credit));
+        let rest = on(1_826, retention(5, 1));
+        assert_eq!(accepted(&mut book, rest), [0, 0, 49_200, 0]);
+        assert_eq!(balance(&book), (arrears, credit));
+    }
+}
+
+#[test]
+fn refusal_5_of_guarantees() {
+    let mut broken = vec![
+        guarantee(1, 0),
+        guarantee(1, 100_000_001),
+        Raw {
+            named_node: 1,
+            ..guarantee(1, 1)
+        },
+        Raw {
+            named_serial: 1,
+            ..guarantee(1, 1)
+        },
+    ];
+    for good in [reduction(1, 1), retention(1, 1)] {
+        broken.push(Raw { amount: 1, ..good });
+        broken.extend([0, 3].map(|named_node| Raw { named_node, ..good }));
+        broken.push(Raw {
+            named_serial: 0,
+            ..good
+        });
+    }
+    for good in [guarantee(1, 1), reduction(1, 1), retention(1, 1)] {
+        broken.extend([Raw { a: 1, ..good }, Raw { b: 1, ..good }]);
+    }
+    all_refused(&broken, 5);
+    accepted(&mut Book::fresh(), guarantee(1, 1));
+    accepted(&mut Book::fresh(), guarantee(1, 100_000_000));
+}
+
+#[test]
+fn refusal_8_of_guarantees() {
+    let mut book = book(&[
+        contribution(1, 300_000, 200, 1),
+        guarantee(2, 50_000),
+        payment(3, 1),
+        on(365, reduction(4, 2)),
+        Raw {
+            account: 6,
+            ..guarantee(5, 1)
+        },
+    ]);
+    for named_serial in [1, 3, 4, 5, 6] {
+        refused(&mut book, on(5_000, reduction(6, named_serial)), 8);
+        refused(&mut book, on(5_000, retention(6, named_serial)), 8);
+    }
+    for raw in [reduction(6, 2), retention(6, 2)] {
+        let named_node = 2;
+        refused(&mut book, Raw { named_node, ..raw }, 8);
+        refused(&mut book, Raw { account: 6, ..raw }, 8);
+    }
+    for raw in [added(6, 2, 1), expiry(6, 2), correction(6, 2, 1)] {
+        refused(&mut book, on(1_826, raw), 8);
+    }
+    assert_eq!(book.contribution_query(5, 1, 2).refusal, 8);
+}
+
+#[test]
+fn refusals_10_and_11_of_guarantees() {
+    let mut book = book(&[on(100, guarantee(1, 50_000))]);
+    refused(&mut book, on(99, reduction(2, 1)), 10);
+    refused(&mut book, on(99, retention(2, 1)), 10);
+    accepted(&mut book, on(1_926, retention(2, 1)));
+    // 11 comes after 10 and before 25 and 26.
+    for raw in [reduction(3, 1), retention(3, 1)] {
+        refused(&mut book, on(99, raw), 10);
+        for day in [100, 464, 465, 1_925, 1_926, 36_524] {
+            refused(&mut book, on(day, raw), 11);
+        }
+    }
+}
+
+#[test]
+fn refusal_24_while_a_guarantee_is_open() {
+    let mut book = book(&[guarantee(1, 500), on(300, payment(2, 5_000))]);
+    refused(&mut book, guarantee(3, 1), 24);
+    refused(&mut book, on(36_524, guarantee(3, 1)), 24);
+    // 5 and 6 come before it.
+    refused(&mut book, guarantee(3, 0), 5);
+    refused(&mut book, guarantee(2, 1), 6);
+    let other = Raw {
+        account: 6,
+        ..guarantee(3, 1)
+    };
+    accepted(&mut book, other);
+    // All is given back, and it is still open.
+    let raw = on(365, reduction(4, 1));
+    assert_eq!(accepted(&mut book, raw), [0, 500, 0, 0]);
+    refused(&mut book, on(2_000, guarantee(5, 1)), 24);
+    assert_eq!(accepted(&mut book, on(1_826, retention(5, 1))), [0; 4]);
+    accepted(&mut book, guarantee(6, 1));
+    refused(&mut book, guarantee(7, 1), 24);
+    refused(&mut book, on(36_524, reduction(7, 1)), 11);
+    accepted(&mut book, on(365, reduction(7, 6)));
+}
+
+#[test]
+fn a_deposit_and_a_guarantee_are_held_together() {
+    let mut book = book(&[guarantee(1, 500), deposit(2, 700, 0)]);
+    refused(&mut book, guarantee(3, 1), 24);
+    refused(&mut book, deposit(3, 1, 0), 9);
+    let raw = on(1_826, deposit_return(3));
+    assert_eq!(accepted(&mut book, raw), [0, 700, 0, 0]);
+    let rest = on(1_826, retention(4, 1));
+    assert_eq!(accepted(&mut book, rest), [0, 0, 500, 0]);
+}
+
+#[test]
+fn refusal_25_days_of_reductions() {
+    let mut book = book(&[on(100, guarantee(1, 50_000))]);
+    refused(&mut book, on(100, reduction(2, 1)), 25);
+    refused(&mut book, on(464, reduction(2, 1)), 25);
+    // One that gives back nothing counts as the last one too.
+    assert_eq!(accepted(&mut book, on(465, reduction(2, 1))), [0; 4]);
+    refused(&mut book, on(829, reduction(3, 1)), 25);
+    accepted(&mut book, on(830, reduction(3, 1)));
+    accepted(&mut book, on(1_500, reduction(4, 1)));
+    // Before the last one.
+    refused(&mut book, on(1_195, reduction(5, 1)), 25);
+    refused(&mut book, on(1_864, reduction(5, 1)), 25);
+    // After five years, too.
+    accepted(&mut book, on(3_000, reduction(5, 1)));
+    accepted(&mut book, on(36_524, reduction(6, 1)));
+    refused(&mut book, on(36_524, reduction(7, 1)), 25);
+}
+
+#[test]
+fn refusal_26_days_of_retentions() {
+    let mut book = book(&[on(100, guarantee(1, 50_000)), on(300, payment(2, 9_990))]);
+    refused(&mut book, on(100, retention(3, 1)), 26);
+    accepted(&mut book, on(465, reduction(3, 1)));
+    refused(&mut book, on(1_925, retention(4, 1)), 26);
+    accepted(&mut book, on(1_800, reduction(4, 1)));
+    // The last reduction doesn't count for it.
+    let rest = on(1_926, retention(5, 1));
+    assert_eq!(accepted(&mut book, rest), [0, 0, 49_001, 0]);
+}
+
+#[test]
+fn refusals_24_to_26_at_load() {
+    let posted = book(&[
+        payment(1, 1),
+        guarantee(2, 50_000),
+        payment(3, 9),
+        on(365, reduction(4, 2)),
+        on(1_826, retention(5, 2)),
+    ]);
+    let good = image(&posted);
+    let (loaded, refusal, record) = Book::load(&good);
+    assert_eq!((refusal, record), (0, 0));
+    assert!(loaded == posted);
+
+    // A place in the record, its byte there, and what refuses it. 364 is
+    // 0x016C and 1,825 is 0x0721.
+    for (record, at, byte, refusal) in [(3, 0, GUARANTEE, 24), (4, 4, 0x6C, 25), (5, 4, 0x21, 26)] {
+        let mut bytes = good.clone();
+        bytes[24 * record + at] = byte;
+        load_refused(&bytes, refusal, record as u16);
+        // Each comes before 20.
+        bytes[24 * record + 6] ^= 1;
+        load_refused(&bytes, refusal, record as u16);
+    }
+}
+
+#[test]
+fn records_of_guarantees() {
+    let posted = book(&[
+        on(10, guarantee(1, 2_500)),
+        on(375, reduction(2, 1)),
+        on(1_836, retention(3, 1)),
+    ]);
+    let mut bytes = [0; 72];
+    bytes[..16].copy_from_slice(&[
+        0x09, 0x01, 0x05, 0x00, 0x0A, 0x00, 0x00, 0x00, //
+        0x01, 0x00, 0x00, 0x00, 0xC4, 0x09, 0x00, 0x00,
+    ]);
+    bytes[24..36].copy_from_slice(&[
+        0x0A, 0x01, 0x05, 0x00, 0x77, 0x01, 0x01, 0x00, //
+        0x02, 0x00, 0x00, 0x00,
+    ]);
+    bytes[48..60].copy_from_slice(&[
+        0x0B, 0x01, 0x05, 0x00, 0x2C, 0x07, 0x02, 0x00, //
+        0x03, 0x00, 0x00, 0x00,
+    ]);
+    for record in [24, 48] {
+        bytes[record + 16] = 1;
+        bytes[record + 23] = 1;
+    }
+    assert_eq!(image(&posted)[24..], bytes);
+}
+
+#[test]
+fn a_statement_and_the_printer_leave_guarantees_out() {
+    let book = book(&[
+        contribution(1, 300_000, 200, 1),
+        guarantee(2, 50_000),
+        on(100, payment(3, 2_500)),
+        bill(4, 1_000, 1, 1),
+        on(365, reduction(5, 2)),
+    ]);
+    let expected = StatementReply {
+        credit: 1_500,
+        held: 300_000,
+        links_read: 5,
+        bills: 1_000,
+        payments: 2_500,
+        complete: true,
+        ..StatementReply::default()
+    };
+    assert_eq!(book.statement(5, 5), expected);
+    let mut line = Vec::new();
+    write_account(&mut line, 5, &book.statement(5, 0)).unwrap();
+    assert_eq!(line, b"5 0 1500 0 300000\n");
+}
+
+/// Entries of all kinds but a retention.
+fn of_all_kinds() -> [Raw; 13] {
+    [
+        contribution(1, 60_000, 100, 1),
+        guarantee(2, 20_000),
+        deposit(3, 30_000, 520),
+        on(100, payment(4, 10_000)),
+        // Credit is 9,000 then, and after the bill arrears are 3,000.
+        on(101, correction(5, 4, 9_000)),
+        on(200, bill(6, 12_000, 1, 1)),
+        // 15,000: 3,000 to arrears, 12,000 paid out.
+        on(300, added(7, 1, 50)),
+        on(301, bill(8, 700, 1, 1)),
+        // 900: 700 to arrears, 200 paid out.
+        on(365, reduction(9, 2)),
+        // 31,560 paid out, of it 1,560 interest.
+        on(365, deposit_return(10)),
+        on(400, deposit(11, 5_000, 0)),
+        on(400, bill(12, 50, 1, 1)),
+        on(1_826, expiry(13, 1)),
+    ]
+}
+
+#[test]
+fn the_sum_of_an_account() {
+    let mut book = Book::fresh();
+    let mut totals = [0; 4];
+    for raw in of_all_kinds() {
+        let amounts = accepted(&mut book, raw);
+        totals = [0, 1, 2, 3].map(|at| totals[at] + amounts[at]);
+    }
+    assert_eq!(totals, [3_700, 43_760, 45_000, 1_560]);
+    let expected = StatementReply {
+        arrears: 50,
+        deposit: 5_000,
+        links_read: 13,
+        bills: 12_750,
+        payments: 9_000,
+        complete: true,
+        ..StatementReply::default()
+    };
+    assert_eq!(book.statement(5, 13), expected);
+    // Contributions, payments, deposits, guarantees, interest and arrears.
+    let came = 60_000 + 9_000 + 35_000 + 20_000 + 1_560 + 50;
+    // Bills, paid out, retained, deposit held: the guarantee holds the rest.
+    let rest = came - (12_750 + 43_760 + 45_000 + 5_000);
+    assert_eq!(rest, 19_100);
+    let raw = on(1_826, retention(14, 2));
+    assert_eq!(accepted(&mut book, raw), [0, 0, rest, 0]);
 }

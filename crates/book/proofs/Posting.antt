@@ -6,6 +6,7 @@ use mathlib.Core.Path.{_≡_, refl, sym, ap, _∙_}
 use mathlib.Core.Bool.{Bool, true, false, cond}
 use native.Mathlib.Omega.{arith}
 use borrow.Author.Tests.{leb-false}
+use Rattle.measures.specs.declared.Cents.{Cents}
 use Rattle.entries.specs.Kinds.{kindOf, sameOf, namesOf}
 use Rattle.entries.specs.Data.{noEntry, entryOf, withOf}
 use Rattle.entries.specs.Refusals.{decidedOf}
@@ -20,7 +21,7 @@ use Rattle.entries.specs.declared.refusals.Refusal.{Refusal}
 use Rattle.entries.proofs.RefusalsLaws.{unbroken}
 use Rattle.rules.specs.Accounts.{noAccount, withNewestOf}
 use Rattle.rules.specs.Answers.{postingReplyOf}
-use Rattle.changes.specs.Changes.{answerOf, addedCustomerOf, expiryOf, correctionOf, contributionOf, billOf, paymentOf, depositOf, depositReturnOf, ownChangeOf, namingChangeOf, ownDecisionOf, namingDecisionOf}
+use Rattle.changes.specs.Changes.{answerOf, addedCustomerOf, expiryOf, correctionOf, reductionOf, retentionOf, contributionOf, billOf, paymentOf, depositOf, guaranteeOf, depositReturnOf, ownChangeOf, namingChangeOf, ownDecisionOf, namingDecisionOf}
 use Rattle.rules.specs.declared.accounts.Account.{Account}
 use Rattle.rules.specs.declared.answers.PostingAnswer.{PostingAnswer}
 use Rattle.rules.specs.declared.answers.PostingAnswer.the-variants as answer
@@ -33,7 +34,7 @@ use Rattle.book.specs.Fresh.{entriesMost}
 use Rattle.book.specs.Refusals.{entryRows, checkEntryOf, searchedOf, decisionBy}
 use Rattle.book.specs.Serials.{lastOf, afterOf}
 use Rattle.book.specs.Chain.{slotOf, Sought, missing, found}
-use Rattle.book.specs.Posting.{accountAt, lookupOf, entriesRewritten, storedOf, decidedBook, decisionOf, postOf, postsOf}
+use Rattle.book.specs.Posting.{accountAt, lookupOf, paidOf, entriesRewritten, storedOf, decidedBook, decisionOf, postOf, postsOf}
 use Rattle.book.specs.declared.Book.{Book}
 use Rattle.book.specs.declared.Serials.{Serials}
 
@@ -55,16 +56,19 @@ same-names true x y f p q = p
 same-names false x y f p q = q
 
 own-names : (r : Raw) (k : Kind) (acc : Account) → ownChangeOf r k acc .«named_at» ≡ Nothing
-unfolding ownChangeOf contributionOf billOf paymentOf depositOf depositReturnOf
+unfolding ownChangeOf contributionOf billOf paymentOf depositOf guaranteeOf depositReturnOf
 own-names r k acc =
     same-names (sameOf k kind.Contribution) _ _ Nothing refl
     (same-names (sameOf k kind.Bill) _ _ Nothing refl
-    (same-names (sameOf k kind.Payment) _ _ Nothing refl (same-names (sameOf k kind.Deposit) _ _ Nothing refl refl)))
+    (same-names (sameOf k kind.Payment) _ _ Nothing refl
+    (same-names (sameOf k kind.Deposit) _ _ Nothing refl (same-names (sameOf k kind.Guarantee) _ _ Nothing refl refl))))
 
-naming-names : (r : Raw) (k : Kind) (acc : Account) (i : ℕ) (d : Data) → namingChangeOf r k acc i d .«named_at» ≡ At i
-unfolding namingChangeOf addedCustomerOf expiryOf correctionOf
-naming-names r k acc i d =
-    same-names (sameOf k kind.AddedCustomer) _ _ (At i) refl (same-names (sameOf k kind.Expiry) _ _ (At i) refl refl)
+naming-names : (r : Raw) (k : Kind) (acc : Account) (paid : Cents) (i : ℕ) (d : Data) → namingChangeOf r k acc paid i d .«named_at» ≡ At i
+unfolding namingChangeOf addedCustomerOf expiryOf reductionOf retentionOf correctionOf
+naming-names r k acc paid i d =
+    same-names (sameOf k kind.AddedCustomer) _ _ (At i) refl
+    (same-names (sameOf k kind.Expiry) _ _ (At i) refl
+    (same-names (sameOf k kind.Reduction) _ _ (At i) refl (same-names (sameOf k kind.Retention) _ _ (At i) refl refl)))
 
 pub names-found : (b : Book) (r : Raw) (x : Change) (i : ℕ) → decisionOf b r ≡ Accepted x → x .«named_at» ≡ At i → (e : Entry) × (lookupOf b r ≡ found i e)
 unfolding decisionOf decisionBy searchedOf ownDecisionOf namingDecisionOf
@@ -74,11 +78,11 @@ names-found b r x i e n = go (namesOf (kindOf (r .kind))) (lookupOf b r) (decide
     is c y q = let same = decided-passed c (Accepted y) x q .1 in cc
 
     go : (t : Bool) (s : Sought) →
-        cond t (searchedOf r (kindOf (r .kind)) (accountAt b (r .account)) s) (ownDecisionOf r (kindOf (r .kind)) (accountAt b (r .account))) ≡ Accepted x →
+        cond t (searchedOf r (kindOf (r .kind)) (accountAt b (r .account)) (paidOf b r) s) (ownDecisionOf r (kindOf (r .kind)) (accountAt b (r .account))) ≡ Accepted x →
         (f : Entry) × (s ≡ found i f)
     go true missing q = let z : _≡_ {A = ℕ} 0 1 = cc in absurd (omega arith)
     go true (found j f) q =
-        let at : At j ≡ At i = sym (naming-names r _ _ j _) ∙ ap (λ (y : Change). y .«named_at») (is _ _ q) ∙ n in
+        let at : At j ≡ At i = sym (naming-names r _ _ _ j _) ∙ ap (λ (y : Change). y .«named_at») (is _ _ q) ∙ n in
         (f, (cc))
     go false s q =
         let none : Nothing ≡ At i = sym (own-names r _ _) ∙ ap (λ (y : Change). y .«named_at») (is _ _ q) ∙ n in

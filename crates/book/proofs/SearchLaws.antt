@@ -5,6 +5,7 @@ use mathlib.Core.Bool.{Bool, true, false, cond, not, _&&_}
 use mathlib.Core.List.{List}
 use native.Mathlib.Omega.{arith}
 use lib.ListN.{getD}
+use Rattle.measures.specs.declared.Cents.{Cents}
 use Rattle.entries.specs.Kinds.{kindOf}
 use Rattle.entries.specs.Data.{noEntry, pointsAt}
 use Rattle.entries.specs.declared.raw.Raw.{Raw}
@@ -18,7 +19,7 @@ use Rattle.book.specs.Serials.{lastOf}
 use Rattle.book.specs.Chain.{slotOf, endsOf, placeOf, startOf, walksOf, walkOf, Sought, found, soughtIn}
 use Rattle.book.specs.Search.{searchOf, goesOnOf, pastOf, foundOf, soughtAt}
 use Rattle.book.specs.Refusals.{decisionBy}
-use Rattle.book.specs.Posting.{lookupOf, decisionOf}
+use Rattle.book.specs.Posting.{lookupOf, paidOf, decisionOf}
 use Rattle.book.specs.declared.Book.{Book}
 use Rattle.book.specs.declared.Search.{Search}
 use Rattle.book.proofs.Posting.{names-found}
@@ -75,13 +76,13 @@ unfolding findsOf lookupOf
 begins b r a e = rw e refl
 
 -- what `decision` gives after the search is the decision on the entry
-pub decided : (b : Book) (r : Raw) (s : Search) (a place : ℕ) (o : Decision) →
-    a ≡ slotOf (r .account) → findsOf (b .entries) (pointsAt r) s ≡ lookupOf b r → goesOnOf s ≡ false → place ≡ placeOf (s .at) →
-    o ≡ decisionBy r (b .count) (lastOf (b .last) (r .node)) (getD (b .accounts) a noAccount) (soughtAt (foundOf s) (getD (b .entries) place noEntry)) →
+pub decided : (b : Book) (r : Raw) (s : Search) (a place : ℕ) (paid : Cents) (o : Decision) →
+    a ≡ slotOf (r .account) → findsOf (b .entries) (pointsAt r) s ≡ lookupOf b r → goesOnOf s ≡ false → place ≡ placeOf (s .at) → paid ≡ paidOf b r →
+    o ≡ decisionBy r (b .count) (lastOf (b .last) (r .node)) (getD (b .accounts) a noAccount) (soughtAt (foundOf s) (getD (b .entries) place noEntry)) paid →
     o ≡ decisionOf b r
 unfolding decisionOf
-decided b r s a place o slot finds over stands decision =
-    rw (decision, stands, ends (b .entries) (pointsAt r) s over ∙ finds, slot) refl
+decided b r s a place paid o slot finds over stands pays decision =
+    rw (decision, stands, ends (b .entries) (pointsAt r) s over ∙ finds, pays, slot) refl
 
 place-found : (s : Search) (i : ℕ) (e f : Entry) → soughtAt (foundOf s) e ≡ found i f → placeOf (s .at) ≡ i
 unfolding foundOf

@@ -4,10 +4,13 @@ use mathlib.Core.Bool.{Bool, cond, not, _&&_, _||_}
 use mathlib.Core.List.{List, [], _∷_}
 use lib.ListN.{getD}
 use lib.Dec.{eqb, ltb}
+use Rattle.measures.specs.Cents.{plusOf}
+use Rattle.measures.specs.declared.Cents.{Cents}
 use Rattle.entries.specs.Kinds.{namesOf}
 use Rattle.entries.specs.Data.{noEntry}
 use Rattle.entries.specs.declared.kinds.Kind.{Kind}
 use Rattle.entries.specs.declared.data.Entry.{Entry}
+use Rattle.rules.specs.Windows.{paidWithin}
 use Rattle.book.specs.Fresh.{accountsMost, entriesMost}
 
 -- the place of an account; 0 where there is no such account
@@ -52,3 +55,8 @@ pub data Sought : Type 0 where
 unfoldable pub soughtIn : (Entry → Bool) → List Link → Sought
 soughtIn test [] = missing
 soughtIn test (l ∷ ls) = cond (test (l .entry)) (found (l .place) (l .entry)) (soughtIn test ls)
+
+-- an amount, and the payments of some entries in the window that ends on a day, added up in turn; a sum stops at 2^64 - 1
+unfoldable pub paidOver : ℕ → Cents → List Link → Cents
+paidOver day paid [] = paid
+paidOver day paid (l ∷ ls) = paidOver day (plusOf paid (paidWithin (l .entry) day)) ls

@@ -4,6 +4,7 @@ use Prim.Native.Nat.{ℕ}
 use mathlib.Core.Path.{_≡_}
 use mathlib.Core.Bool.{cond}
 use mathlib.Core.List.{List, [], _∷_}
+use Rattle.measures.specs.Cents.{cents}
 use Rattle.entries.specs.Kinds.{kindOf, namesOf}
 use Rattle.entries.specs.Data.{noEntry, entryOf, withOf}
 use Rattle.entries.specs.Refusals.{refusalNumber}
@@ -47,11 +48,11 @@ begun r (Refused n) = record { account = noAccount; first = noEntry }
 begun r (Accepted c) = record { account = c .account; first = entryOf r 0 (c .«data») }
 
 abbrev begins : ℕ → ℕ → ℕ → ℕ → ℕ → State
-begins kind day amount a b = let r = raw 1 kind day amount a b in begun r (decisionBy r 0 0 noAccount missing)
+begins kind day amount a b = let r = raw 1 kind day amount a b in begun r (decisionBy r 0 0 noAccount missing (cents 0))
 
 -- an entry after it: each is posted as the second of a book whose node's last serial is 1
 abbrev post : State → ℕ → ℕ → ℕ → ℕ → ℕ → Decision
-post s kind day amount a b = decisionBy (raw 2 kind day amount a b) 1 1 (s .account) (found 0 (s .first))
+post s kind day amount a b = decisionBy (raw 2 kind day amount a b) 1 1 (s .account) (found 0 (s .first)) (cents 0)
 
 abbrev rewritten : Entry → Found → Data → Entry
 rewritten e Nothing d = e

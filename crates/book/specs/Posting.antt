@@ -1,10 +1,14 @@
--- A posting: the next book, and the answer in document 01's numbers.
+-- A posting: the next book, and the answer in the documents' numbers.
 use Prim.Native.Nat.{ℕ, _+_}
+use mathlib.Core.Bool.{cond}
 use mathlib.Core.List.{List, [], _∷_}
 use lib.ListN.{getD, set}
-use Rattle.entries.specs.Kinds.{kindOf}
+use Rattle.measures.specs.Cents.{cents}
+use Rattle.measures.specs.declared.Cents.{Cents}
+use Rattle.entries.specs.Kinds.{kindOf, sameOf}
 use Rattle.entries.specs.Data.{noEntry, entryOf, withOf, pointsAt}
 use Rattle.entries.specs.declared.raw.Raw.{Raw}
+use Rattle.entries.specs.declared.kinds.Kind.the-variants as kind
 use Rattle.entries.specs.declared.data.Entry.{Entry}
 use Rattle.entries.specs.declared.data.Data.{Data}
 use Rattle.rules.specs.Accounts.{noAccount, withNewestOf}
@@ -19,7 +23,7 @@ use Rattle.changes.specs.declared.Decision.{Decision}
 use Rattle.changes.specs.declared.Decision.the-variants.{Refused, Accepted}
 use Rattle.book.specs.Fresh.{entriesMost}
 use Rattle.book.specs.Serials.{lastOf, afterOf}
-use Rattle.book.specs.Chain.{slotOf, startOf, walkOf, Sought, soughtIn}
+use Rattle.book.specs.Chain.{slotOf, startOf, walkOf, Sought, soughtIn, paidOver}
 use Rattle.book.specs.Refusals.{decisionBy}
 use Rattle.book.specs.declared.Book.{Book}
 use Rattle.book.specs.declared.Posted.{Posted}
@@ -39,6 +43,13 @@ accountAt b account = getD (b .accounts) (slotOf account) noAccount
 unfoldable pub lookupOf : Book → Raw → Sought
 lookupOf b r =
     soughtIn (pointsAt r) (walkOf (b .entries) entriesMost (startOf (kindOf (r .kind)) (accountAt b (r .account) .newest)))
+
+-- where r is a reduction, the payments of its account in its window; else 0
+unfoldable pub paidOf : Book → Raw → Cents
+paidOf b r =
+    cond (sameOf (kindOf (r .kind)) kind.Reduction)
+    (paidOver (r .day) (cents 0) (walkOf (b .entries) entriesMost (accountAt b (r .account) .newest)))
+    (cents 0)
 
 -- `next`, with the entry at a place given the data d; the entries were es before
 abbrev pub entriesRewritten : List Entry → Found → Data → List Entry → List Entry
@@ -66,7 +77,7 @@ decidedBook b r (Accepted c) = storedOf b r c
 -- the refusal of r, or what it does
 unfoldable pub decisionOf : Book → Raw → Decision
 decisionOf b r =
-    decisionBy r (b .count) (lastOf (b .last) (r .node)) (accountAt b (r .account)) (lookupOf b r)
+    decisionBy r (b .count) (lastOf (b .last) (r .node)) (accountAt b (r .account)) (lookupOf b r) (paidOf b r)
 
 unfoldable pub postOf : Book → Raw → PostedReply
 postOf b r =

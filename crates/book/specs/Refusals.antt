@@ -1,8 +1,9 @@
--- Refused, in checking order: 1 to 7 here, 8 to 16 in the rules' ownRows and namingRows.
+-- Refused, in checking order: 1 to 7 here, 8 to 16 and 24 to 26 in the rules' ownRows and namingRows.
 use Prim.Native.Nat.{ℕ}
 use mathlib.Core.Bool.{cond, not}
 use mathlib.Core.List.{List, [], _∷_}
 use lib.Dec.{leb, ltb}
+use Rattle.measures.specs.declared.Cents.{Cents}
 use Rattle.entries.specs.Kinds.{kindOf, sameOf, namesOf}
 use Rattle.entries.specs.Ranges.{between, inRangeOf}
 use Rattle.entries.specs.Refusals.{Row, _⇒_, checkRows, decidedOf}
@@ -35,12 +36,13 @@ unfoldable pub checkEntryOf : Raw → Kind → ℕ → ℕ → Check
 checkEntryOf r k count last = checkRows check.Passed (entryRows r k count last)
 
 -- of an entry that names another: where the chain yields no such entry, the posting stops with refusal 8
-unfoldable pub searchedOf : Raw → Kind → Account → Sought → Decision
-searchedOf r k acc missing = Refused no.NotOnChain
-searchedOf r k acc (found i e) = namingDecisionOf r k acc i e
+unfoldable pub searchedOf : Raw → Kind → Account → Cents → Sought → Decision
+searchedOf r k acc paid missing = Refused no.NotOnChain
+searchedOf r k acc paid (found i e) = namingDecisionOf r k acc paid i e
 
--- 1 to 7 first; then an entry goes on with its own rows, or with those about the entry that it names
-unfoldable pub decisionBy : Raw → ℕ → ℕ → Account → Sought → Decision
-decisionBy r count last acc s =
+-- 1 to 7 first; then an entry goes on with its own rows, or with those about the entry that it names; `paid` is the sum of the
+-- payments in a reduction's window
+unfoldable pub decisionBy : Raw → ℕ → ℕ → Account → Sought → Cents → Decision
+decisionBy r count last acc s paid =
     let k = kindOf (r .kind) in
-    decidedOf (checkEntryOf r k count last) Refused (cond (namesOf k) (searchedOf r k acc s) (ownDecisionOf r k acc))
+    decidedOf (checkEntryOf r k count last) Refused (cond (namesOf k) (searchedOf r k acc paid s) (ownDecisionOf r k acc))

@@ -11,17 +11,20 @@ use entries::Refusal;
 use entries::both;
 use entries::one_more;
 use entries::within;
+use measures::Cents;
 use measures::Day;
 use rules::Account;
 use rules::PostingAnswer;
+use rules::paid_within;
 ghost use mathlib.Core.Path.{_≡_};
 ghost use Prim.Native.Nat.{_-_};
 ghost use Rattle.entries.specs.Kinds.{kindOf};
 ghost use Rattle.entries.specs.Data.{pointsAt};
 ghost use Rattle.book.specs.Fresh.{freshBook};
 ghost use Rattle.book.specs.Serials.{lastOf, afterOf};
-ghost use Rattle.book.specs.Chain.{slotOf, endsOf, placeOf, startOf};
+ghost use Rattle.book.specs.Chain.{slotOf, endsOf, placeOf, startOf, walksOf};
 ghost use Rattle.book.specs.Search.{searchOf, goesOnOf, pastOf, foundOf, soughtAt};
+ghost use Rattle.book.specs.Window.{windowStart, windowOf, onwardOf};
 ghost use Rattle.book.specs.Refusals.{checkEntryOf, decisionBy};
 ghost use Rattle.book.specs.Posting.{postedReply, postOf};
 
@@ -47,6 +50,17 @@ pub struct Search {
     // How many links are left.
     pub left: u16,
     pub found: bool,
+}
+
+// A walk along an account's chain that adds up the payments in a reduction's window.
+pub struct Window {
+    // The number of the entry that it stands at.
+    pub at: u16,
+    // How many links are left.
+    pub left: u16,
+    // The reduction's day.
+    pub day: u16,
+    pub paid: Cents,
 }
 
 // The next book beside the answer.
@@ -114,6 +128,23 @@ fn less_one(n: u16) -> u16
     if n == 0 { 0 } else { n - 1 }
 }
 
+// The place of the entry of a number, and 0 at the end of a chain.
+fn place(at: u16) -> usize
+    ensures { λ r. ⌜ r ≡ placeOf at ⌝ }
+{
+    if ends(at) {
+        return 0;
+    }
+    at as usize - 1
+}
+
+// A walk goes on while links are left and the chain does not end.
+fn walks(at: u16, left: u16) -> bool
+    ensures { λ r. ⌜ r ≡ walksOf at left ⌝ }
+{
+    both(0 < left, !ends(at))
+}
+
 impl Search {
     // From the entry of a number.
     pub fn along(at: u16) -> Search
@@ -136,17 +167,14 @@ impl Search {
     pub fn goes_on(self) -> bool
         ensures { λ r. ⌜ r ≡ goesOnOf self ⌝ }
     {
-        both(!self.found, both(0 < self.left, !ends(self.at)))
+        both(!self.found, walks(self.at, self.left))
     }
 
     // The place of the entry that it stands at, and 0 at the end of the chain.
     pub fn place(self) -> usize
         ensures { λ r. ⌜ r ≡ placeOf (self .at) ⌝ }
     {
-        if ends(self.at) {
-            return 0;
-        }
-        self.at as usize - 1
+        place(self.at)
     }
 
     // After a look at the entry that it stands at: whether that is the one, and its next index.
@@ -185,6 +213,52 @@ impl Search {
     }
 }
 
+// Where a window's walk begins: at 0, the end of every chain, where the kind is no reduction.
+fn window_start(kind: Kind, newest: u16) -> u16
+    ensures { λ r. ⌜ r ≡ windowStart kind newest ⌝ }
+{
+    if kind.is(Kind::Reduction) { newest } else { 0 }
+}
+
+impl Window {
+    // Of an entry, on an account whose newest entry has this number.
+    pub fn of(raw: Raw, newest: u16) -> Window
+        ensures { λ r. ⌜ r ≡ windowOf raw newest ⌝ }
+    {
+        Window {
+            at: window_start(Kind::of(raw.kind), newest),
+            left: Book::ENTRIES as u16,
+            day: raw.day,
+            paid: Cents(0),
+        }
+    }
+
+    pub fn goes_on(self) -> bool
+        ensures { λ r. ⌜ r ≡ walksOf (self .at) (self .left) ⌝ }
+    {
+        walks(self.at, self.left)
+    }
+
+    // The place of the entry that it stands at.
+    pub fn place(self) -> usize
+        ensures { λ r. ⌜ r ≡ placeOf (self .at) ⌝ }
+    {
+        place(self.at)
+    }
+
+    // After a look at the entry that it stands at.
+    pub fn past(self, entry: Entry) -> Window
+        ensures { λ r. ⌜ r ≡ onwardOf self entry ⌝ }
+    {
+        Window {
+            at: entry.next,
+            left: less_one(self.left),
+            day: self.day,
+            paid: self.paid.plus(paid_within(entry, self.day)),
+        }
+    }
+}
+
 // 1 to 7: the refusals that the entry, its node's last serial and the number of entries decide.
 fn check_entry(raw: Raw, kind: Kind, count: u16, last: u32) -> Check
     ensures { λ r. ⌜ r ≡ checkEntryOf raw kind count last ⌝ }
@@ -202,7 +276,8 @@ fn check_entry(raw: Raw, kind: Kind, count: u16, last: u32) -> Check
         .refuse_if(Book::ENTRIES <= count as usize, Refusal::BookFull)
 }
 
-// The refusal of an entry, or what it does, after the search for the entry that it names. `entry` is the one that the search stands at.
+// The refusal of an entry, or what it does, after the search for the entry that it names. `entry` is the one that the search stands at,
+// `paid` is the sum of the payments in a reduction's window.
 pub fn decision(
     raw: Raw,
     count: u16,
@@ -210,8 +285,9 @@ pub fn decision(
     account: Account,
     search: Search,
     entry: Entry,
+    paid: Cents,
 ) -> Decision
-    ensures { λ r. ⌜ r ≡ decisionBy raw count (lastOf last (raw .node)) account (soughtAt (foundOf search) entry) ⌝ }
+    ensures { λ r. ⌜ r ≡ decisionBy raw count (lastOf last (raw .node)) account (soughtAt (foundOf search) entry) paid ⌝ }
 {
     let kind = Kind::of(raw.kind);
     if let Check::Refused(refusal) = check_entry(raw, kind, count, last.of(raw.node)) {
@@ -224,7 +300,7 @@ pub fn decision(
     let Found::At(i) = lookup else {
         return Decision::Refused(Refusal::NotOnChain);
     };
-    naming_decision(raw, kind, account, i, entry)
+    naming_decision(raw, kind, account, paid, i, entry)
 }
 
 impl Book {
@@ -265,7 +341,13 @@ impl Book {
         }
         let place = search.place();
         let entry = self.entries[place];
-        let decision = decision(raw, count, last, account, search, entry);
+        let mut window = Window::of(raw, account.newest);
+        while window.goes_on() {
+            let i = window.place();
+            let passed = self.entries[i];
+            window = window.past(passed);
+        }
+        let decision = decision(raw, count, last, account, search, entry, window.paid);
         let number = one_more(count);
         let answer = decision.answer(number);
         if let Decision::Accepted(change) = decision {

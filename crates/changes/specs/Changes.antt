@@ -5,7 +5,7 @@ use Rattle.measures.specs.Cents.{cents, plusOf, minusOf}
 use Rattle.measures.specs.Days.{day, sinceOf}
 use Rattle.measures.specs.declared.Cents.{Cents}
 use Rattle.entries.specs.Kinds.{sameOf}
-use Rattle.entries.specs.Data.{metres, particularsOf, refundedOf, expiredOf, restatedOf}
+use Rattle.entries.specs.Data.{metres, particularsOf, refundedOf, expiredOf, restatedOf, reducedOf, retainedOf}
 use Rattle.entries.specs.Refusals.{refusalNumber, decidedOf}
 use Rattle.entries.specs.declared.raw.Raw.{Raw}
 use Rattle.entries.specs.declared.kinds.Kind.{Kind}
@@ -13,8 +13,8 @@ use Rattle.entries.specs.declared.kinds.Kind.the-variants as kind
 use Rattle.entries.specs.declared.data.Data.{Data}
 use Rattle.entries.specs.declared.data.Data.the-variants as data′
 use Rattle.entries.specs.declared.data.Entry.{Entry}
-use Rattle.rules.specs.Accounts.{creditedOf, plusCreditOf, chargedOf, withDepositOf}
-use Rattle.rules.specs.Formulas.{billedOf, refundOf, interestOf}
+use Rattle.rules.specs.Accounts.{creditedOf, plusCreditOf, chargedOf, withDepositOf, withGuaranteeOf}
+use Rattle.rules.specs.Formulas.{billedOf, refundOf, interestOf, givenBackOf}
 use Rattle.rules.specs.Checks.{checkOwnOf, checkNamingOf}
 use Rattle.rules.specs.Answers.{amountsOf}
 use Rattle.rules.specs.declared.accounts.Account.{Account}
@@ -105,27 +105,51 @@ correctionOf r acc i d =
     changeOf (plusCreditOf (credited .account) (credited .left)) (data′.Correction (r .«named_node») (r .«named_serial») new) (At i)
     (restatedOf d new) (amountsOf (credited .settled) (cents 0) (cents 0) (cents 0))
 
--- what an entry that names nothing does: of kind 1, 3, 4, 5 or else 6
+-- 9: guarantee held = amount; one is open
+unfoldable pub guaranteeOf : Raw → Account → Change
+guaranteeOf r acc =
+    let amount = cents (r .amount) in
+    aloneOf (withGuaranteeOf acc true) (data′.Guarantee false (day (r .day)) amount amount) nothingOf
+
+-- 10: guarantee held falls by what is given back; it is credited; what is left over is paid out
+unfoldable pub reductionOf : Raw → Account → Cents → ℕ → Data → Change
+reductionOf r acc paid i d =
+    let back = givenBackOf (particularsOf d .«guarantee_held») paid in
+    let credited = creditedOf acc back in
+    changeOf (credited .account) (data′.Reduction (r .«named_node») (r .«named_serial»)) (At i) (reducedOf d back (day (r .day)))
+    (amountsOf (credited .settled) (credited .left) (cents 0) (cents 0))
+
+-- 11: retained = guarantee held; held = 0; the guarantee is closed, and none is open
+unfoldable pub retentionOf : Raw → Account → ℕ → Data → Change
+retentionOf r acc i d =
+    changeOf (withGuaranteeOf acc false) (data′.Retention (r .«named_node») (r .«named_serial»)) (At i) (retainedOf d)
+    (amountsOf (cents 0) (cents 0) (particularsOf d .«guarantee_held») (cents 0))
+
+-- what an entry that names nothing does: of kind 1, 3, 4, 5, 9 or else 6
 unfoldable pub ownChangeOf : Raw → Kind → Account → Change
 ownChangeOf r k acc =
     cond (sameOf k kind.Contribution) (contributionOf r acc)
     (cond (sameOf k kind.Bill) (billOf r acc)
     (cond (sameOf k kind.Payment) (paymentOf r acc)
-    (cond (sameOf k kind.Deposit) (depositOf r acc) (depositReturnOf r acc))))
+    (cond (sameOf k kind.Deposit) (depositOf r acc)
+    (cond (sameOf k kind.Guarantee) (guaranteeOf r acc) (depositReturnOf r acc)))))
 
--- what an entry does that names the one at place i, of data d: of kind 2, 7 or else 8
-unfoldable pub namingChangeOf : Raw → Kind → Account → ℕ → Data → Change
-namingChangeOf r k acc i d =
+-- what an entry does that names the one at place i, of data d: of kind 2, 7, 10, 11 or else 8; `paid` is the sum of the payments
+-- in a reduction's window
+unfoldable pub namingChangeOf : Raw → Kind → Account → Cents → ℕ → Data → Change
+namingChangeOf r k acc paid i d =
     cond (sameOf k kind.AddedCustomer) (addedCustomerOf r acc i d)
-    (cond (sameOf k kind.Expiry) (expiryOf r acc i d) (correctionOf r acc i d))
+    (cond (sameOf k kind.Expiry) (expiryOf r acc i d)
+    (cond (sameOf k kind.Reduction) (reductionOf r acc paid i d)
+    (cond (sameOf k kind.Retention) (retentionOf r acc i d) (correctionOf r acc i d))))
 
 -- an entry that names nothing is refused by the first rule that it breaks, or has its effect
 unfoldable pub ownDecisionOf : Raw → Kind → Account → Decision
 ownDecisionOf r k acc = decidedOf (checkOwnOf r k acc) Refused (Accepted (ownChangeOf r k acc))
 
 -- and so is one that names e, which stands at place i
-unfoldable pub namingDecisionOf : Raw → Kind → Account → ℕ → Entry → Decision
-namingDecisionOf r k acc i e = decidedOf (checkNamingOf r k e) Refused (Accepted (namingChangeOf r k acc i (e .«data»)))
+unfoldable pub namingDecisionOf : Raw → Kind → Account → Cents → ℕ → Entry → Decision
+namingDecisionOf r k acc paid i e = decidedOf (checkNamingOf r k e) Refused (Accepted (namingChangeOf r k acc paid i (e .«data»)))
 
 -- the refusal's number; 0 means accepted
 unfoldable pub decisionNumber : Decision → ℕ

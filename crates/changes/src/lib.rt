@@ -14,11 +14,12 @@ use rules::PostingAnswer;
 use rules::billed;
 use rules::check_naming;
 use rules::check_own;
+use rules::given_back;
 use rules::interest;
 use rules::refund;
 ghost use mathlib.Core.Path.{_≡_};
 ghost use Rattle.entries.specs.Data.{entryOf, withOf};
-ghost use Rattle.changes.specs.Changes.{aloneOf, contributionOf, addedCustomerOf, billOf, paymentOf, depositOf, depositReturnOf, expiryOf, pickOf, correctionOf, ownChangeOf, namingChangeOf, ownDecisionOf, namingDecisionOf, decisionNumber, answerOf, nothingOf};
+ghost use Rattle.changes.specs.Changes.{aloneOf, contributionOf, addedCustomerOf, billOf, paymentOf, depositOf, depositReturnOf, expiryOf, pickOf, correctionOf, guaranteeOf, reductionOf, retentionOf, ownChangeOf, namingChangeOf, ownDecisionOf, namingDecisionOf, decisionNumber, answerOf, nothingOf};
 
 // Where a named entry stands in the book's array.
 pub enum Found {
@@ -217,10 +218,7 @@ fn expiry(raw: Raw, account: Account, i: usize, named_data: Data) -> Change
     let particulars = named_data.particulars();
     Change {
         account,
-        data: Data::Expiry {
-            named_node: raw.named_node,
-            named_serial: raw.named_serial,
-        },
+        data: Data::Expiry(raw.named_node, raw.named_serial),
         named_at: Found::At(i),
         named_data: named_data.expired(),
         amounts: Amounts::of(Cents(0), Cents(0), particulars.held, Cents(0)),
@@ -260,7 +258,52 @@ fn correction(raw: Raw, account: Account, i: usize, named_data: Data) -> Change
     }
 }
 
-// What an entry that names nothing does: of kind 1, 3, 4, 5 or else 6.
+// 9: guarantee held = amount; one is open.
+fn guarantee(raw: Raw, account: Account) -> Change
+    ensures { λ r. ⌜ r ≡ guaranteeOf raw account ⌝ }
+{
+    let amount = raw.cents();
+    let data = Data::Guarantee {
+        closed: false,
+        reduced: Day(raw.day),
+        amount,
+        held: amount,
+    };
+    Change::alone(account.with_guarantee(true), data, nothing())
+}
+
+// 10: what is given back is credited; what is left over is paid out. `paid` is the sum of the payments in the reduction's window.
+fn reduction(raw: Raw, account: Account, paid: Cents, i: usize, named_data: Data) -> Change
+    ensures { λ r. ⌜ r ≡ reductionOf raw account paid i «named_data» ⌝ }
+{
+    let particulars = named_data.particulars();
+    let back = given_back(particulars.guarantee_held, paid);
+    let credited = account.credited(back);
+    let after = credited.account;
+    Change {
+        account: after,
+        data: Data::Reduction(raw.named_node, raw.named_serial),
+        named_at: Found::At(i),
+        named_data: named_data.reduced(back, Day(raw.day)),
+        amounts: Amounts::of(credited.settled, credited.left, Cents(0), Cents(0)),
+    }
+}
+
+// 11: the rest is retained; held = 0; the guarantee is closed, and none is open.
+fn retention(raw: Raw, account: Account, i: usize, named_data: Data) -> Change
+    ensures { λ r. ⌜ r ≡ retentionOf raw account i «named_data» ⌝ }
+{
+    let particulars = named_data.particulars();
+    Change {
+        account: account.with_guarantee(false),
+        data: Data::Retention(raw.named_node, raw.named_serial),
+        named_at: Found::At(i),
+        named_data: named_data.retained(),
+        amounts: Amounts::of(Cents(0), Cents(0), particulars.guarantee_held, Cents(0)),
+    }
+}
+
+// What an entry that names nothing does: of kind 1, 3, 4, 5, 9 or else 6.
 fn own_change(raw: Raw, kind: Kind, account: Account) -> Change
     ensures { λ r. ⌜ r ≡ ownChangeOf raw kind account ⌝ }
 {
@@ -276,18 +319,35 @@ fn own_change(raw: Raw, kind: Kind, account: Account) -> Change
     if kind.is(Kind::Deposit) {
         return deposit(raw, account);
     }
+    if kind.is(Kind::Guarantee) {
+        return guarantee(raw, account);
+    }
     deposit_return(raw, account)
 }
 
-// What an entry does that names the one at place i: of kind 2, 7 or else 8.
-fn naming_change(raw: Raw, kind: Kind, account: Account, i: usize, named_data: Data) -> Change
-    ensures { λ r. ⌜ r ≡ namingChangeOf raw kind account i «named_data» ⌝ }
+// What an entry does that names the one at place i: of kind 2, 7, 10, 11 or else 8. `paid` is the sum of the
+// payments in a reduction's window.
+fn naming_change(
+    raw: Raw,
+    kind: Kind,
+    account: Account,
+    paid: Cents,
+    i: usize,
+    named_data: Data,
+) -> Change
+    ensures { λ r. ⌜ r ≡ namingChangeOf raw kind account paid i «named_data» ⌝ }
 {
     if kind.is(Kind::AddedCustomer) {
         return added_customer(raw, account, i, named_data);
     }
     if kind.is(Kind::Expiry) {
         return expiry(raw, account, i, named_data);
+    }
+    if kind.is(Kind::Reduction) {
+        return reduction(raw, account, paid, i, named_data);
+    }
+    if kind.is(Kind::Retention) {
+        return retention(raw, account, i, named_data);
     }
     correction(raw, account, i, named_data)
 }
@@ -303,12 +363,19 @@ pub fn own_decision(raw: Raw, kind: Kind, account: Account) -> Decision
 }
 
 // The refusal of an entry that names the one at place i, or what it does.
-pub fn naming_decision(raw: Raw, kind: Kind, account: Account, i: usize, named: Entry) -> Decision
-    ensures { λ r. ⌜ r ≡ namingDecisionOf raw kind account i named ⌝ }
+pub fn naming_decision(
+    raw: Raw,
+    kind: Kind,
+    account: Account,
+    paid: Cents,
+    i: usize,
+    named: Entry,
+) -> Decision
+    ensures { λ r. ⌜ r ≡ namingDecisionOf raw kind account paid i named ⌝ }
 {
     if let Check::Refused(refusal) = check_naming(raw, kind, named) {
         return Decision::Refused(refusal);
     }
     let data = named.data;
-    Decision::Accepted(naming_change(raw, kind, account, i, data))
+    Decision::Accepted(naming_change(raw, kind, account, paid, i, data))
 }

@@ -21,6 +21,9 @@ kind-again kind.Deposit = refl
 kind-again kind.DepositReturn = refl
 kind-again kind.Expiry = refl
 kind-again kind.Correction = refl
+kind-again kind.Guarantee = refl
+kind-again kind.Reduction = refl
+kind-again kind.Retention = refl
 
 pub same-kind : (k l : Kind) → sameOf k l ≡ true → k ≡ l
 same-kind k l e = sym (kind-again k) ∙ ap kindOf (eqb-true (numberOf k) (numberOf l) e) ∙ kind-again l

@@ -36,6 +36,9 @@ refusal-above no.ImageCount = omega arith
 refusal-above no.NextIndex = omega arith
 refusal-above no.BufferShort = omega arith
 refusal-above no.ResultsShort = omega arith
+refusal-above no.GuaranteeOpen = omega arith
+refusal-above no.ReductionEarly = omega arith
+refusal-above no.RetentionEarly = omega arith
 
 pub is-refusal : (n : Refusal) → eqb (refusalNumber n) 0 ≡ false
 is-refusal n = ne-eqb (refusalNumber n) 0 (λ z. omega (arith, refusal-above n))

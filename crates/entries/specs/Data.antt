@@ -5,6 +5,7 @@ use lib.Dec.{eqb}
 use Rattle.measures.specs.Cents.{cents, plusOf, minusOf}
 use Rattle.measures.specs.Days.{day}
 use Rattle.measures.specs.declared.Cents.{Cents}
+use Rattle.measures.specs.declared.Day.{Day}
 use Rattle.measures.specs.declared.Metres.{Metres}
 use Rattle.entries.specs.declared.raw.Raw.{Raw}
 use Rattle.entries.specs.declared.kinds.Kind.{Kind}
@@ -12,7 +13,7 @@ use Rattle.entries.specs.declared.kinds.Kind.the-variants as kind
 use Rattle.entries.specs.declared.data.Entry.{Entry}
 use Rattle.entries.specs.declared.data.Particulars.{Particulars}
 use Rattle.entries.specs.declared.data.Data.{Data}
-use Rattle.entries.specs.declared.data.Data.the-variants.{Unused, Contribution, AddedCustomer, Bill, Payment, Deposit, DepositReturn, Expiry, Correction}
+use Rattle.entries.specs.declared.data.Data.the-variants.{Unused, Contribution, AddedCustomer, Bill, Payment, Deposit, DepositReturn, Expiry, Correction, Guarantee, Reduction, Retention}
 
 abbrev pub metres : ℕ → Metres
 metres n = record { 0 = n }
@@ -50,6 +51,8 @@ correctableParticulars k standing corrected =
       closed = false;
       standing = standing;
       corrected = corrected;
+      «guarantee_held» = cents 0;
+      reduced = day 0;
     }
 
 -- what they read of an entry that nothing names: the kind
@@ -69,6 +72,25 @@ contributionParticulars amount built phases held added closed =
       closed = closed;
       standing = cents 0;
       corrected = false;
+      «guarantee_held» = cents 0;
+      reduced = day 0;
+    }
+
+-- what they read of a guarantee: what is held, the day of its last reduction, or its own before the first, and whether it is closed
+abbrev pub guaranteeParticulars : Cents → Day → Bool → Particulars
+guaranteeParticulars held reduced closed =
+    record {
+      kind = kind.Guarantee;
+      amount = cents 0;
+      built = metres 0;
+      phases = 0;
+      held = cents 0;
+      added = 0;
+      closed = closed;
+      standing = cents 0;
+      corrected = false;
+      «guarantee_held» = held;
+      reduced = reduced;
     }
 
 -- a function of a contribution's fields: phases, metres built, customers added, closed, amount, held, to arrears, paid out, retained
@@ -83,26 +105,37 @@ FromBill A = Cents → ℕ → ℕ → Cents → Bool → A
 abbrev pub FromPayment : Type 0 → Type 0
 FromPayment A = Cents → Cents → Bool → A
 
--- f of a contribution's fields, g of a bill's, h of a payment's; of an entry that nothing names, x of its kind
-unfoldable pub caseOf : {A : Type 0} → Data → FromContribution A → FromBill A → FromPayment A → (Kind → A) → A
-caseOf Unused f g h x = x kind.Unknown
-caseOf (Contribution phases built added closed amount held toArrears paidOut retained) f g h x =
+-- of a guarantee's: closed, the day of its last reduction, amount, held
+abbrev pub FromGuarantee : Type 0 → Type 0
+FromGuarantee A = Bool → Day → Cents → Cents → A
+
+-- f of a contribution's fields, g of a bill's, h of a payment's, i of a guarantee's; of an entry that nothing names, x of its kind
+unfoldable pub caseOf : {A : Type 0} → Data → FromContribution A → FromBill A → FromPayment A → FromGuarantee A → (Kind → A) → A
+caseOf Unused f g h i x = x kind.Unknown
+caseOf (Contribution phases built added closed amount held toArrears paidOut retained) f g h i x =
     f phases built added closed amount held toArrears paidOut retained
-caseOf (AddedCustomer node serial shared phases) f g h x = x kind.AddedCustomer
-caseOf (Bill charge period served standing corrected) f g h x = g charge period served standing corrected
-caseOf (Payment amount standing corrected) f g h x = h amount standing corrected
-caseOf (Deposit amount rate) f g h x = x kind.Deposit
-caseOf DepositReturn f g h x = x kind.DepositReturn
-caseOf (Expiry node serial) f g h x = x kind.Expiry
-caseOf (Correction node serial amount) f g h x = x kind.Correction
+caseOf (AddedCustomer node serial shared phases) f g h i x = x kind.AddedCustomer
+caseOf (Bill charge period served standing corrected) f g h i x = g charge period served standing corrected
+caseOf (Payment amount standing corrected) f g h i x = h amount standing corrected
+caseOf (Deposit amount rate) f g h i x = x kind.Deposit
+caseOf DepositReturn f g h i x = x kind.DepositReturn
+caseOf (Expiry node serial) f g h i x = x kind.Expiry
+caseOf (Correction node serial amount) f g h i x = x kind.Correction
+caseOf (Guarantee closed reduced amount held) f g h i x = i closed reduced amount held
+caseOf (Reduction node serial) f g h i x = x kind.Reduction
+caseOf (Retention node serial) f g h i x = x kind.Retention
 
 -- f of a contribution's fields; of every other entry x
 abbrev pub ofContribution : {A : Type 0} → Data → FromContribution A → A → A
-ofContribution d f x = caseOf d f (λ _ _ _ _ _. x) (λ _ _ _. x) (λ _. x)
+ofContribution d f x = caseOf d f (λ _ _ _ _ _. x) (λ _ _ _. x) (λ _ _ _ _. x) (λ _. x)
 
 -- g of a bill's fields, h of a payment's; of every other entry x
 abbrev pub ofBillOrPayment : {A : Type 0} → Data → FromBill A → FromPayment A → A → A
-ofBillOrPayment d g h x = caseOf d (λ _ _ _ _ _ _ _ _ _. x) g h (λ _. x)
+ofBillOrPayment d g h x = caseOf d (λ _ _ _ _ _ _ _ _ _. x) g h (λ _ _ _ _. x) (λ _. x)
+
+-- i of a guarantee's fields; of every other entry x
+abbrev pub ofGuarantee : {A : Type 0} → Data → FromGuarantee A → A → A
+ofGuarantee d i x = caseOf d (λ _ _ _ _ _ _ _ _ _. x) (λ _ _ _ _ _. x) (λ _ _ _. x) i (λ _. x)
 
 -- what the rules read of every entry
 unfoldable pub particularsOf : Data → Particulars
@@ -110,6 +143,7 @@ particularsOf d =
     caseOf d (λ phases built added closed amount held _ _ _. contributionParticulars amount built phases held added closed)
     (λ _ _ _ standing corrected. correctableParticulars kind.Bill standing corrected)
     (λ _ standing corrected. correctableParticulars kind.Payment standing corrected)
+    (λ closed reduced _ held. guaranteeParticulars held reduced closed)
     otherParticulars
 
 abbrev pub oneMore : ℕ → ℕ
@@ -133,3 +167,11 @@ expiredOf d =
 unfoldable pub restatedOf : Data → Cents → Data
 restatedOf d new =
     ofBillOrPayment d (λ charge period served _ _. Bill charge period served new true) (λ amount _ _. Payment amount new true) d
+
+-- a guarantee after a reduction on a day, which is kept: held falls by what is given back
+unfoldable pub reducedOf : Data → Cents → Day → Data
+reducedOf d back day = ofGuarantee d (λ closed _ amount held. Guarantee closed day amount (minusOf held back)) d
+
+-- a guarantee after its retention: held = 0; it is closed
+unfoldable pub retainedOf : Data → Data
+retainedOf d = ofGuarantee d (λ _ reduced amount _. Guarantee true reduced amount (cents 0)) d

@@ -7,7 +7,7 @@ use lib.Dec.{eqb}
 use Rattle.entries.specs.declared.kinds.Kind.{Kind}
 use Rattle.entries.specs.declared.kinds.Kind.the-variants as kind
 
--- document 01's number of a kind
+-- the documents' number of a kind
 abbrev pub numberOf : Kind → ℕ
 numberOf kind.Unknown = 0
 numberOf kind.Contribution = 1
@@ -18,6 +18,9 @@ numberOf kind.Deposit = 5
 numberOf kind.DepositReturn = 6
 numberOf kind.Expiry = 7
 numberOf kind.Correction = 8
+numberOf kind.Guarantee = 9
+numberOf kind.Reduction = 10
+numberOf kind.Retention = 11
 
 abbrev pub kinds : List Kind
 kinds =
@@ -30,20 +33,29 @@ kinds =
     kind.DepositReturn ∷
     kind.Expiry ∷
     kind.Correction ∷
+    kind.Guarantee ∷
+    kind.Reduction ∷
+    kind.Retention ∷
     []
 
--- the kind of a number; every number but 1 to 8 is unknown
+-- the kind of a number; every number but 1 to 11 is unknown
 unfoldable pub kindOf : ℕ → Kind
 kindOf n = getD kinds n kind.Unknown
 
 abbrev pub sameOf : Kind → Kind → Bool
 sameOf k l = eqb (numberOf k) (numberOf l)
 
+-- the kinds that name a guarantee
+abbrev pub namesGuaranteeOf : Kind → Bool
+namesGuaranteeOf k = sameOf k kind.Reduction || sameOf k kind.Retention
+
 -- the kinds that name another entry
 abbrev pub namesOf : Kind → Bool
-namesOf k = sameOf k kind.AddedCustomer || (sameOf k kind.Expiry || sameOf k kind.Correction)
+namesOf k = namesGuaranteeOf k || (sameOf k kind.AddedCustomer || (sameOf k kind.Expiry || sameOf k kind.Correction))
 
--- of a kind that names one: a correction names a bill or a payment, an added customer and an expiry a contribution
+-- of a kind that names one: a correction names a bill or a payment, a reduction and a retention a guarantee, an added customer and an
+-- expiry a contribution
 unfoldable pub misnamesOf : Kind → Kind → Bool
 misnamesOf k l =
-    cond (sameOf k kind.Correction) (not (sameOf l kind.Bill || sameOf l kind.Payment)) (not (sameOf l kind.Contribution))
+    cond (sameOf k kind.Correction) (not (sameOf l kind.Bill || sameOf l kind.Payment))
+    (cond (namesGuaranteeOf k) (not (sameOf l kind.Guarantee)) (not (sameOf l kind.Contribution)))

@@ -7,7 +7,7 @@ use Rattle.entries.specs.declared.refusals.Refusal.the-variants as no
 use Rattle.entries.specs.declared.refusals.Check.{Check}
 use Rattle.entries.specs.declared.refusals.Check.the-variants.{Passed, Refused}
 
--- document 01's number of a refusal
+-- the documents' number of a refusal
 abbrev pub refusalNumber : Refusal → ℕ
 refusalNumber no.UnknownKind = 1
 refusalNumber no.UnknownNode = 2
@@ -31,6 +31,9 @@ refusalNumber no.ImageCount = 19
 refusalNumber no.NextIndex = 20
 refusalNumber no.BufferShort = 21
 refusalNumber no.ResultsShort = 22
+refusalNumber no.GuaranteeOpen = 24
+refusalNumber no.ReductionEarly = 25
+refusalNumber no.RetentionEarly = 26
 
 abbrev pub elseRefused : Check → Refusal → Check
 elseRefused Passed n = Refused n

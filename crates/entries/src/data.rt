@@ -5,7 +5,7 @@ use measures::Cents;
 use measures::Day;
 use measures::Metres;
 ghost use mathlib.Core.Path.{_≡_};
-ghost use Rattle.entries.specs.Data.{noEntry, otherParticulars, correctableParticulars, contributionParticulars, oneMore, particularsOf, refundedOf, expiredOf, restatedOf, withOf, carries};
+ghost use Rattle.entries.specs.Data.{noEntry, otherParticulars, correctableParticulars, contributionParticulars, guaranteeParticulars, oneMore, particularsOf, refundedOf, expiredOf, restatedOf, reducedOf, retainedOf, withOf, carries};
 
 // What was posted and what became of it, by kind. The case is the kind.
 pub enum Data {
@@ -45,15 +45,22 @@ pub enum Data {
         rate: u16,
     },
     DepositReturn,
-    Expiry {
-        named_node: u8,
-        named_serial: u32,
-    },
+    // The named node and serial, here and in a reduction and a retention.
+    Expiry(u8, u32),
     Correction {
         named_node: u8,
         named_serial: u32,
         amount: Cents,
     },
+    Guarantee {
+        closed: bool,
+        // The day of its last reduction, and its own before the first.
+        reduced: Day,
+        amount: Cents,
+        held: Cents,
+    },
+    Reduction(u8, u32),
+    Retention(u8, u32),
 }
 
 pub struct Entry {
@@ -67,7 +74,7 @@ pub struct Entry {
     pub next: u16,
 }
 
-// What the rules read of a named entry. A field that its kind does not have is zero or false.
+// What the rules read of an entry: a named one, or a payment in a reduction's window. A field that its kind does not have is zero or false.
 pub struct Particulars {
     pub kind: Kind,
     pub amount: Cents,
@@ -78,6 +85,9 @@ pub struct Particulars {
     pub closed: bool,
     pub standing: Cents,
     pub corrected: bool,
+    // What is held of a guarantee, and the day of its last reduction, or its own before the first.
+    pub guarantee_held: Cents,
+    pub reduced: Day,
 }
 
 impl Particulars {
@@ -102,6 +112,8 @@ impl Particulars {
             closed: false,
             standing,
             corrected,
+            guarantee_held: Cents(0),
+            reduced: Day(0),
         }
     }
 
@@ -126,6 +138,27 @@ impl Particulars {
             closed,
             standing: Cents(0),
             corrected: false,
+            guarantee_held: Cents(0),
+            reduced: Day(0),
+        }
+    }
+
+    // What the rules read of a guarantee.
+    fn guarantee(held: Cents, reduced: Day, closed: bool) -> Particulars
+        ensures { λ r. ⌜ r ≡ guaranteeParticulars held reduced closed ⌝ }
+    {
+        Particulars {
+            kind: Kind::Guarantee,
+            amount: Cents(0),
+            built: Metres(0),
+            phases: 0,
+            held: Cents(0),
+            added: 0,
+            closed,
+            standing: Cents(0),
+            corrected: false,
+            guarantee_held: held,
+            reduced,
         }
     }
 }
@@ -161,11 +194,19 @@ impl Data {
                 corrected,
                 ..
             } => Particulars::correctable(Kind::Payment, standing, corrected),
+            Data::Guarantee {
+                closed,
+                reduced,
+                held,
+                ..
+            } => Particulars::guarantee(held, reduced, closed),
             Data::AddedCustomer { .. } => Particulars::other(Kind::AddedCustomer),
             Data::Deposit { .. } => Particulars::other(Kind::Deposit),
             Data::DepositReturn => Particulars::other(Kind::DepositReturn),
-            Data::Expiry { .. } => Particulars::other(Kind::Expiry),
+            Data::Expiry(_, _) => Particulars::other(Kind::Expiry),
             Data::Correction { .. } => Particulars::other(Kind::Correction),
+            Data::Reduction(_, _) => Particulars::other(Kind::Reduction),
+            Data::Retention(_, _) => Particulars::other(Kind::Retention),
             Data::Unused => Particulars::other(Kind::Unknown),
         }
     }
@@ -258,6 +299,46 @@ impl Data {
                 amount: posted,
                 standing: amount,
                 corrected,
+            },
+            _ => self,
+        }
+    }
+
+    // A guarantee after a reduction on a day, by which a part of what was held is given back.
+    pub fn reduced(self, back: Cents, day: Day) -> Data
+        ensures { λ r. ⌜ r ≡ reducedOf self back day ⌝ }
+    {
+        match self {
+            Data::Guarantee {
+                closed,
+                reduced: _,
+                amount,
+                held,
+            } => Data::Guarantee {
+                closed,
+                reduced: day,
+                amount,
+                held: held.minus(back),
+            },
+            _ => self,
+        }
+    }
+
+    // A guarantee after its retention: nothing is held, and it is closed.
+    pub fn retained(self) -> Data
+        ensures { λ r. ⌜ r ≡ retainedOf self ⌝ }
+    {
+        match self {
+            Data::Guarantee {
+                closed: _,
+                reduced,
+                amount,
+                held: _,
+            } => Data::Guarantee {
+                closed: true,
+                reduced,
+                amount,
+                held: Cents(0),
             },
             _ => self,
         }

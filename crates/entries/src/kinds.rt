@@ -1,10 +1,10 @@
 // The kinds of entries, and the ranges of each kind's fields.
 ghost use mathlib.Core.Path.{_≡_};
 ghost use mathlib.Core.Bool.{_&&_, _||_};
-ghost use Rattle.entries.specs.Kinds.{kindOf, numberOf, sameOf, namesOf, misnamesOf};
+ghost use Rattle.entries.specs.Kinds.{kindOf, numberOf, sameOf, namesGuaranteeOf, namesOf, misnamesOf};
 ghost use Rattle.entries.specs.Ranges.{row, limitsOf};
 
-// Document 01's kinds 1 to 8 in their order, after a case for every other number.
+// The documents' kinds 1 to 11 in their order, after a case for every other number.
 pub enum Kind {
     Unknown,
     Contribution,
@@ -15,6 +15,9 @@ pub enum Kind {
     DepositReturn,
     Expiry,
     Correction,
+    Guarantee,
+    Reduction,
+    Retention,
 }
 
 // The ends of the fields' ranges. Where `named` holds, the named node is 1 or 2 and the named serial 1 or more; else both are 0.
@@ -87,6 +90,9 @@ impl Kind {
             6 => Kind::DepositReturn,
             7 => Kind::Expiry,
             8 => Kind::Correction,
+            9 => Kind::Guarantee,
+            10 => Kind::Reduction,
+            11 => Kind::Retention,
             _ => Kind::Unknown,
         }
     }
@@ -104,6 +110,9 @@ impl Kind {
             Kind::DepositReturn => 6,
             Kind::Expiry => 7,
             Kind::Correction => 8,
+            Kind::Guarantee => 9,
+            Kind::Reduction => 10,
+            Kind::Retention => 11,
         }
     }
 
@@ -118,9 +127,19 @@ impl Kind {
         ensures { λ r. ⌜ r ≡ namesOf self ⌝ }
     {
         either(
-            self.is(Kind::AddedCustomer),
-            either(self.is(Kind::Expiry), self.is(Kind::Correction)),
+            self.names_guarantee(),
+            either(
+                self.is(Kind::AddedCustomer),
+                either(self.is(Kind::Expiry), self.is(Kind::Correction)),
+            ),
         )
+    }
+
+    // Whether it names a guarantee.
+    fn names_guarantee(self) -> bool
+        ensures { λ r. ⌜ r ≡ namesGuaranteeOf self ⌝ }
+    {
+        either(self.is(Kind::Reduction), self.is(Kind::Retention))
     }
 
     // Of a kind that names an entry: whether it may not name one of the other kind.
@@ -129,6 +148,9 @@ impl Kind {
     {
         if self.is(Kind::Correction) {
             return !either(other.is(Kind::Bill), other.is(Kind::Payment));
+        }
+        if self.names_guarantee() {
+            return !other.is(Kind::Guarantee);
         }
         !other.is(Kind::Contribution)
     }
@@ -154,6 +176,9 @@ impl Kind {
             Kind::DepositReturn => Limits::row(0, 0, false, 0, 0, false, 0),
             Kind::Expiry => Limits::row(0, 0, true, 0, 0, false, 0),
             Kind::Correction => Limits::row(0, Kind::AMOUNT_MOST, true, 0, 0, false, 0),
+            Kind::Guarantee => Limits::row(1, Kind::AMOUNT_MOST, false, 0, 0, false, 0),
+            Kind::Reduction => Limits::row(0, 0, true, 0, 0, false, 0),
+            Kind::Retention => Limits::row(0, 0, true, 0, 0, false, 0),
             Kind::Unknown => Limits::row(0, 0, false, 0, 0, false, 0),
         }
     }

@@ -2,7 +2,7 @@
 ghost use mathlib.Core.Path.{_≡_};
 ghost use Rattle.entries.specs.Refusals.{refusalNumber, refuseIf};
 
-// One case for each of document 01's numbers, in its order.
+// One case for each number that the book gives, 1 to 22 and 24 to 26, in their order.
 pub enum Refusal {
     UnknownKind,
     UnknownNode,
@@ -26,6 +26,9 @@ pub enum Refusal {
     NextIndex,
     BufferShort,
     ResultsShort,
+    GuaranteeOpen,
+    ReductionEarly,
+    RetentionEarly,
 }
 
 // What the checks so far found.
@@ -35,7 +38,7 @@ pub enum Check {
 }
 
 impl Refusal {
-    // Document 01's number.
+    // The documents' number.
     pub fn number(self) -> u8
         ensures { λ r. ⌜ r ≡ refusalNumber self ⌝ }
     {
@@ -62,6 +65,9 @@ impl Refusal {
             Refusal::NextIndex => 20,
             Refusal::BufferShort => 21,
             Refusal::ResultsShort => 22,
+            Refusal::GuaranteeOpen => 24,
+            Refusal::ReductionEarly => 25,
+            Refusal::RetentionEarly => 26,
         }
     }
 }

@@ -14,7 +14,7 @@ use Rattle.entries.specs.declared.kinds.Kind.{Kind}
 use Rattle.entries.specs.declared.kinds.Kind.the-variants as kind
 use Rattle.entries.proofs.Ranges.{inside, Ranged, ranged}
 use Rattle.entries.proofs.KindsLaws.{every-kind, same-kind, no-kind}
-use Rattle.history.specs.History.{accounts, entries, periodEnd, History, lastSerial, naming, suits, Target, absent, present, find, named, Fate, fate, targetEntry, targetFate, Balance, moveOf, moveBy, balance, Rule, _⇒_, firstBroken, refusals, judge, lastDay}
+use Rattle.history.specs.History.{accounts, entries, periodEnd, History, lastSerial, namingGuarantee, naming, suits, Target, absent, present, find, named, Fate, fate, paidBy, guaranteeOpen, targetEntry, targetFate, Balance, moveOf, moveBy, balance, Rule, _⇒_, firstBroken, refusals, judge, lastDay}
 use Rattle.history.specs.Laws.{Valid, empty, joins}
 
 pub or-left : (a b : Bool) → (a || b) ≡ false → a ≡ false
@@ -24,6 +24,11 @@ or-left false b e = refl
 pub or-right : (a b : Bool) → (a || b) ≡ false → b ≡ false
 or-right true b e = absurd (true≢false e)
 or-right false b e = e
+
+-- what follows from either of two tests
+or-true : {A : Type 0} (a b : Bool) → (a ≡ true → A) → (b ≡ true → A) → (a || b) ≡ true → A
+or-true true b p q e = p refl
+or-true false b p q e = q e
 
 abbrev pub Numbered : List Rule → Type 0
 Numbered [] = Unit {0}
@@ -97,7 +102,8 @@ pub record Passed (h : History) (r : Raw) (k : Kind) (e : Raw) (f : Fate) (b : B
   pub room : length h < entries
   pub suited : (naming k && not (suits k (kindOf (e .kind)))) ≡ false
   pub deposit : (sameOf k kind.Deposit && ltb 0 (b .deposit) || sameOf k kind.DepositReturn && eqb (b .deposit) 0) ≡ false
-  pub unclosed : (sameOf (kindOf (e .kind)) kind.Contribution && f .closed) ≡ false
+  pub guarantee : (sameOf k kind.Guarantee && guaranteeOpen h (r .account)) ≡ false
+  pub unclosed : ((sameOf (kindOf (e .kind)) kind.Contribution || sameOf (kindOf (e .kind)) kind.Guarantee) && f .closed) ≡ false
   pub period-runs : (sameOf k kind.AddedCustomer && leb (periodEnd e) (r .day)) ≡ false
   pub uncorrected : ((sameOf (kindOf (e .kind)) kind.Bill || sameOf (kindOf (e .kind)) kind.Payment) && f .corrected) ≡ false
 
@@ -118,6 +124,7 @@ pass h r k e f b z =
       room = leb-false _ _ (row 7);
       suited = row 8;
       deposit = row 9;
+      guarantee = row 24;
       unclosed = row 11;
       period-runs = row 12;
       uncorrected = row 16;
@@ -137,11 +144,12 @@ fits (joins {r} {h} v j) = omega (arith, accepts h r j .room)
 -- WHAT AN ACCEPTED ENTRY NAMES
 -- nothing suits where nothing is found
 pub unsuited : (k : Kind) → suits k (kindOf 0) ≡ false
-unsuited k = rw no-kind (go (sameOf k kind.Correction))
+unsuited k = rw no-kind (go (sameOf k kind.Correction) (namingGuarantee k))
   where
-    go : (t : Bool) → cond t false false ≡ false
-    go true = refl
-    go false = refl
+    go : (t u : Bool) → cond t false (cond u false false) ≡ false
+    go true u = refl
+    go false true = refl
+    go false false = refl
 
 module _ (h : History) (r : Raw) where
   pub data Role : Type 0 where
@@ -172,7 +180,7 @@ module _ (h : History) (r : Raw) where
   accepts-upon j n i e f = rw (named-at n i e f) at (accepts h r j)
 
   pub move-upon : (b : Balance) → naming (kindOf (r .kind)) ≡ true → (i : ℕ) (e : Raw) → find h r ≡ present i e →
-      moveBy h r b ≡ moveOf (kindOf (r .kind)) (kindOf (e .kind)) r b e (fate h e)
+      moveBy h r b ≡ moveOf (kindOf (r .kind)) (kindOf (e .kind)) r b e (paidBy h r) (fate h e)
   unfolding moveBy
   move-upon b n i e f = rw (named-at n i e f)
 
@@ -182,19 +190,17 @@ correctable bill = cond bill kind.Bill kind.Payment
 
 -- the kinds that name an entry, each with the kinds that it names
 pub upon-cases : (P : Kind → Kind → Type 0) → P kind.AddedCustomer kind.Contribution → P kind.Expiry kind.Contribution →
-    P kind.Correction kind.Bill → P kind.Correction kind.Payment → (k l : Kind) → naming k ≡ true → suits k l ≡ true → P k l
-upon-cases P added expired bill payment k l = go (sameOf k kind.AddedCustomer) refl (sameOf k kind.Expiry) refl (sameOf k kind.Correction) refl
+    P kind.Correction kind.Bill → P kind.Correction kind.Payment → P kind.Reduction kind.Guarantee → P kind.Retention kind.Guarantee →
+    (k l : Kind) → naming k ≡ true → suits k l ≡ true → P k l
+upon-cases P added expired bill payment reduced retained k l =
+    or-true _ _
+    (or-true _ _ (at kind.Reduction (λ s. pair _ kind.Guarantee s reduced)) (at kind.Retention (λ s. pair _ kind.Guarantee s retained)))
+    (or-true _ _ (at kind.AddedCustomer (λ s. pair _ kind.Contribution s added))
+    (or-true _ _ (at kind.Expiry (λ s. pair _ kind.Contribution s expired))
+    (at kind.Correction (λ s. or-true _ _ (λ t. pair _ kind.Bill t bill) (λ t. pair _ kind.Payment t payment) s))))
   where
-    at : (m n : Kind) → k ≡ m → sameOf l n ≡ true → P m n → P k l
-    at m n p q x = rw (p, same-kind l n q) x
+    at : (m : Kind) → (suits m l ≡ true → P m l) → sameOf k m ≡ true → suits k l ≡ true → P k l
+    at m x p = rw (same-kind k m p) x
 
-    sum : k ≡ kind.Correction → (t : Bool) → sameOf l kind.Bill ≡ t → (t || sameOf l kind.Payment) ≡ true → P k l
-    sum p true q s = at kind.Correction kind.Bill p q bill
-    sum p false q s = at kind.Correction kind.Payment p s payment
-
-    go : (t : Bool) → sameOf k kind.AddedCustomer ≡ t → (u : Bool) → sameOf k kind.Expiry ≡ u → (w : Bool) → sameOf k kind.Correction ≡ w →
-        (t || (u || w)) ≡ true → suits k l ≡ true → P k l
-    go true p u q w o n s = let k′ = same-kind k kind.AddedCustomer p in at kind.AddedCustomer kind.Contribution k′ (rw k′ at s) added
-    go false p true q w o n s = let k′ = same-kind k kind.Expiry q in at kind.Expiry kind.Contribution k′ (rw k′ at s) expired
-    go false p false q true o n s = let k′ = same-kind k kind.Correction o in sum k′ (sameOf l kind.Bill) refl (rw k′ at s)
-    go false p false q false o n s = absurd (true≢false (sym n))
+    pair : (m n : Kind) → sameOf l n ≡ true → P m n → P m l
+    pair m n q x = rw (same-kind l n q) x

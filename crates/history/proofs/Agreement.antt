@@ -37,21 +37,22 @@ use Rattle.book.specs.Serials.{lastOf, afterOf}
 use Rattle.book.specs.Chain as chains
 use Rattle.book.specs.Chain.{slotOf}
 use Rattle.book.specs.Refusals.{entryRows}
-use Rattle.book.specs.Posting.{accountAt, lookupOf, entriesRewritten, storedOf, decidedBook, decisionOf, postOf}
+use Rattle.book.specs.Posting.{accountAt, lookupOf, paidOf, entriesRewritten, storedOf, decidedBook, decisionOf, postOf}
 use Rattle.book.specs.declared.Book.{Book}
 use Rattle.book.specs.declared.Serials.{Serials}
 use Rattle.queries.specs.Chain.{walkAt}
 use Rattle.entries.proofs.RefusalsLaws.{refusal-above, checkNumber}
-use Rattle.history.specs.History.{History, accounts, entries, lastSerial, naming, Target, absent, present, find, named, postedFate, fateAfter, fate, targetEntry, targetFate, Balance, moveOf, moved, moveBy, balance, Amounts, amountsBy, amounts, judge, joined, offer, repliedBy, repliedOf, addedUp, toArrears, refundsPaid}
+use Rattle.history.specs.History.{History, accounts, entries, lastSerial, naming, Target, absent, present, find, named, filter, sum, postedFate, fateAfter, fate, paidBy, guaranteeOpen, targetEntry, targetFate, Balance, moveOf, moved, moveBy, balance, Amounts, amountsBy, amounts, judge, joined, offer, repliedBy, repliedOf, addedUp, toArrears, refundsPaid}
 use Rattle.history.specs.Laws.{Valid, empty, joins}
 use Rattle.history.specs.Images.{newestOf}
-use Rattle.history.specs.Agreement.{keptAccount, keptData, dataIn, keptEntry, keptWalk, Placed, start, more, Agrees, Kept, Agreement}
+use Rattle.history.specs.Agreement.{keptAccount, accountIn, keptData, dataIn, keptEntry, keptWalk, Placed, start, more, Agrees, Kept, Agreement}
 use Rattle.history.proofs.Accept.{accepts, fits, named-none, Role, alone, upon, role, named-at, move-upon}
-use Rattle.history.proofs.Names.{hit, fate-new, customers-new, misses-kind, hits, names-points, fate-hit}
+use Rattle.history.proofs.Names.{hit, fate-new, given-new, misses-kind, hits, names-points, fate-hit}
 use Rattle.history.proofs.Conserve.{divide}
+use Rattle.history.proofs.Open.{openAfter, open-own, open-other}
 use Rattle.history.proofs.Bound.{in-ranges, added-small, standing-small, bounded}
 use Rattle.history.proofs.Tables.{rows, effect, one-table, check-same}
-use Rattle.history.proofs.Search.{placeOf, walk, found-at, lookup-same, state-same, last-same}
+use Rattle.history.proofs.Search.{placeOf, walk, found-at, lookup-same, paid-same, state-same, last-same}
 use Rattle.history.proofs.Effects.{changeBy, own-effect, naming-effect}
 use Rattle.history.proofs.Stored.{slot-at, rows-past, rows-miss, rows-hit}
 
@@ -84,11 +85,11 @@ decided-refused (check.Refused m) o n e = (m, refl, e)
 
 module _ {b : Book} {h : History} (w : Agrees b h) (v : Valid h) (r : Raw) where
   abbrev does : Decision
-  does = effect r (kindOf (r .kind)) (accountAt b (r .account)) (namesOf (kindOf (r .kind))) (lookupOf b r)
+  does = effect r (kindOf (r .kind)) (accountAt b (r .account)) (paidOf b r) (namesOf (kindOf (r .kind))) (lookupOf b r)
 
   whole : decisionOf b r ≡ decidedOf (checks.checkRows check.Passed (table w v r)) Refused does
   unfolding decisionOf
-  whole = one-table r (b .count) (lastOf (b .last) (r .node)) (accountAt b (r .account)) (lookupOf b r)
+  whole = one-table r (b .count) (lastOf (b .last) (r .node)) (accountAt b (r .account)) (lookupOf b r) (paidOf b r)
 
   decision-refused : (n : ℕ) → judge h r ≡ suc n → (m : Refusal) × (decisionOf b r ≡ Refused m) × (refusalNumber m ≡ suc n)
   decision-refused n j = let d = decided-refused _ does n (refusal-same w v r ∙ j) in (d .0, whole ∙ d .1, d .2)
@@ -113,7 +114,7 @@ module _ {b : Book} {h : History} (w : Agrees b h) (v : Valid h) (r : Raw) (j : 
   unfolding between
   known = let p = accepts h r j in rw (le-leb 1 (r .account) (p .account-low), le-leb (r .account) accounts (p .account-high)) refl
 
-  account-at : accountAt b (r .account) ≡ keptAccount bal last
+  account-at : accountAt b (r .account) ≡ accountIn h (r .account)
   account-at = let p = accepts h r j in w .account (r .account) (p .account-low) (p .account-high)
 
   -- the entry that it names, as the book keeps it
@@ -121,35 +122,39 @@ module _ {b : Book} {h : History} (w : Agrees b h) (v : Valid h) (r : Raw) (j : 
   lookup-at k i e f = found-at (lookup-same w (fits v) r known) i e (named-at h r k i e f)
 
   data-new : dataIn (r ∷ h) r ≡ keptData (kindOf (r .kind)) r (postedFate r) 0 0
-  data-new = rw (fate-new v r j, customers-new v (λ (y : Amounts). y .settled) r j, customers-new v (λ (y : Amounts). y .paidOut) r j) refl
+  data-new = rw (fate-new v r j, given-new kind.AddedCustomer refl (λ (y : Amounts). y .settled) r v j, given-new kind.AddedCustomer refl (λ (y : Amounts). y .paidOut) r v j) refl
 
   -- and after it
   data-after : naming (kindOf (r .kind)) ≡ true → (i : ℕ) (e : Raw) → find h r ≡ present i e →
       let k = kindOf (r .kind) in
-      let x = amountsBy (moveOf k (kindOf (e .kind)) r bal e (fate h e)) bal in
+      let x = amountsBy (moveOf k (kindOf (e .kind)) r bal e (paidBy h r) (fate h e)) bal in
       let t = sameOf k kind.AddedCustomer in
-      dataIn (r ∷ h) e ≡ keptData (kindOf (e .kind)) e (fateAfter k r e (fate h e)) (cond t (x .settled) 0 + toArrears h e) (cond t (x .paidOut) 0 + refundsPaid h e)
+      dataIn (r ∷ h) e ≡ keptData (kindOf (e .kind)) e (fateAfter k r e (paidBy h r) (fate h e)) (cond t (x .settled) 0 + toArrears h e) (cond t (x .paidOut) 0 + refundsPaid h e)
   unfolding addedUp amounts
   data-after n i e f =
       let p = hit v r i e f .aimed in
       rw (fate-hit r h e (names-points r e n p), p, and-true (sameOf (kindOf (r .kind)) kind.AddedCustomer), move-upon h r bal n i e f) refl
 
+  -- whether a guarantee is open then
+  abbrev opened : Bool
+  opened = openAfter (kindOf (r .kind)) (guaranteeOpen h (r .account))
+
   abbrev theChange : Change
-  theChange = changeBy (moveBy h r bal) bal last (dataIn (r ∷ h) r) (placeOf (named h r)) (newNamed h r (named h r))
+  theChange = changeBy (moveBy h r bal) bal opened last (dataIn (r ∷ h) r) (placeOf (named h r)) (newNamed h r (named h r))
 
   effect-by : Role h r → does w v r ≡ Accepted theChange
   unfolding entryOf moveBy
   effect-by (alone n) =
       let p = accepts h r j in
       rw (account-at, named-none h r n, n, data-new)
-      (ap Accepted (own-effect r bal last (length h) (bounded v (r .account)) (p .room) _ _ _ (kindOf (r .kind)) n (p .kind-known) (p .ranges) (p .day)))
+      (ap Accepted (own-effect r bal (guaranteeOpen h (r .account)) last (length h) (bounded v (r .account)) (p .room) _ _ _ _ (kindOf (r .kind)) n (p .kind-known) (p .ranges) (p .day)))
   effect-by (upon n i e f s) =
       let p = accepts h r j in
       let member = hit v r i e f .member in
       let old = in-ranges v e member in
-      rw (account-at, n, lookup-at n i e f .1, named-at h r n i e f, data-new, data-after n i e f)
-      (ap Accepted (naming-effect r bal last (length h) (bounded v (r .account)) (p .room) e (fate h e) i (toArrears h e) (refundsPaid h e) (kindOf (r .kind)) (kindOf (e .kind)) n s (old .amount)
-      (p .ranges .amount) (p .ranges .a) (omega (arith, added-small h e, p .room)) (standing-small v e old) (λ c. omega (arith, divide v e member c, old .amount))))
+      rw (account-at, n, lookup-at n i e f .1, named-at h r n i e f, data-new, data-after n i e f, paid-same w v r known)
+      (ap Accepted (naming-effect r bal (guaranteeOpen h (r .account)) last (length h) (bounded v (r .account)) (p .room) e (paidBy h r) (fate h e) i (toArrears h e) (refundsPaid h e) (kindOf (r .kind)) (kindOf (e .kind)) n s (old .amount)
+      (p .ranges .amount) (p .ranges .a) (omega (arith, added-small h e, p .room)) (standing-small v e old) (λ c. omega (arith, rw c at (divide v e member .0), old .amount))))
 
   pub decision : decisionOf b r ≡ Accepted theChange
   decision = decision-accepted w v r j ∙ effect-by (role h r j)
@@ -205,26 +210,26 @@ module _ {b : Book} {h : History} (w : Agrees b h) (v : Valid h) (r : Raw) (j : 
   long-rewritten es (At i) d next = length-set next i (withOf (getD es i noEntry) d)
 
   -- its accounts
-  account-new : keptAccount (moved (moveBy h r bal) bal) (length h + 1) ≡ keptAccount (balance (r ∷ h) (r .account)) (newestOf (r ∷ h) (r .account))
+  account-new : keptAccount (moved (moveBy h r bal) bal) opened (length h + 1) ≡ accountIn (r ∷ h) (r .account)
   unfolding balance newestOf
-  account-new = rw (eq-eqb (r .account) (r .account) refl) refl
+  account-new = rw (open-own v r j, eq-eqb (r .account) (r .account) refl) refl
 
-  account-else : (a : ℕ) → eqb (r .account) a ≡ false → keptAccount (balance (r ∷ h) a) (newestOf (r ∷ h) a) ≡ keptAccount (balance h a) (newestOf h a)
+  account-else : (a : ℕ) → eqb (r .account) a ≡ false → accountIn (r ∷ h) a ≡ accountIn h a
   unfolding balance newestOf
-  account-else a e = rw e refl
+  account-else a e = rw (open-other v r j a e, e) refl
 
-  account-after : (a : ℕ) → 1 ≤ a → a ≤ accounts → accountAt next a ≡ keptAccount (balance (r ∷ h) a) (newestOf (r ∷ h) a)
+  account-after : (a : ℕ) → 1 ≤ a → a ≤ accounts → accountAt next a ≡ accountIn (r ∷ h) a
   unfolding storedOf withNewestOf
   account-after a l m = rw (w .counted) (go (eqb (r .account) a) refl)
     where
       new : Account
-      new = keptAccount (moved (moveBy h r bal) bal) (length h + 1)
+      new = keptAccount (moved (moveBy h r bal) bal) opened (length h + 1)
 
-      go : (t : Bool) → eqb (r .account) a ≡ t → getD (set (b .accounts) (slotOf (r .account)) new) (slotOf a) noAccount ≡ keptAccount (balance (r ∷ h) a) (newestOf (r ∷ h) a)
+      go : (t : Bool) → eqb (r .account) a ≡ t → getD (set (b .accounts) (slotOf (r .account)) new) (slotOf a) noAccount ≡ accountIn (r ∷ h) a
       go true e =
           let p = accepts h r j in
           let own : slotOf (r .account) < length (b .accounts) = omega (arith, slot-at (r .account) (p .account-low) (p .account-high), p .account-low, p .account-high, w .accounts-long) in
-          subst (λ (n : ℕ). getD (set (b .accounts) (slotOf (r .account)) new) (slotOf n) noAccount ≡ keptAccount (balance (r ∷ h) n) (newestOf (r ∷ h) n))
+          subst (λ (n : ℕ). getD (set (b .accounts) (slotOf (r .account)) new) (slotOf n) noAccount ≡ accountIn (r ∷ h) n)
           (eqb-true (r .account) a e) (getD-set-same (b .accounts) (slotOf (r .account)) new noAccount own ∙ account-new)
       go false e =
           let p = accepts h r j in
@@ -271,7 +276,7 @@ no-entry (suc n) zero = refl
 no-entry (suc n) (suc i) = no-entry n i
 
 fresh-agrees : Agrees freshBook []
-unfolding freshBook newestOf balance lastSerial
+unfolding freshBook newestOf balance lastSerial sum filter
 fresh-agrees =
     record {
       accounts-long = length-replicate accounts noAccount;

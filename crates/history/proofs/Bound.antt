@@ -1,11 +1,11 @@
 -- How large the numbers of a history can grow: far below the limits of the book's sums.
 use mathlib.Core.Path.{_≡_, subst}
-use Prim.Native.Nat.{ℕ, suc, _+_, _-_, _*_, _≤_}
+use Prim.Native.Nat.{ℕ, zero, suc, _+_, _-_, _*_, _≤_}
 use native.Mathlib.Omega.{arith}
 use native.Mathlib.Nat.{mul-le-mul, div-le-self}
 use mathlib.Core.Bool.{Bool, true, false, cond}
 use mathlib.Core.List.{[], _∷_}
-use lib.ListN.{length}
+use lib.ListN.{length, take}
 use lib.Dec.{eqb}
 use Rattle.entries.specs.Kinds.{kindOf, sameOf}
 use Rattle.entries.specs.Ranges.{amountMost, limitsOf, rateMost, billPeriodMost}
@@ -14,10 +14,11 @@ use Rattle.entries.specs.declared.kinds.Kind.{Kind}
 use Rattle.entries.specs.declared.kinds.Kind.the-variants as kind
 use Rattle.entries.proofs.KindsLaws.{every-kind, no-kind}
 use Rattle.rules.specs.Formulas.{billed, interest}
-use Rattle.history.specs.History.{History, names, named, Fate, fate, targetEntry, targetFate, Balance, moveOf, moved, moveBy, balance, judge, lastDay}
+use Rattle.history.specs.History.{History, named, filter, entriesOf, Fate, Reading, sum, inWindow, paidUntil, fate, total, paidBy, targetEntry, targetFate, Balance, moveOf, moved, moveBy, balance, judge, lastDay}
 use Rattle.history.specs.Laws.{Valid, empty, joins, In, newest, older}
 use Rattle.history.proofs.Accept.{FieldsInRange, accepts, Role, alone, upon, named-none, named-at, role}
 use Rattle.history.proofs.Names.{hit, fate-cases}
+use Rattle.history.proofs.Conserve.{total-filter}
 
 -- more than one entry can move
 abbrev pub large : ℕ
@@ -48,14 +49,44 @@ unfolding fate
 added-small [] e = omega arith
 added-small (c ∷ h) e =
     let ih = added-small h e in
-    fate-cases (λ f. f .added ≤ suc (length h)) (names c e) (kindOf (c .kind)) c e (fate h e) (omega arith) (omega arith) (omega arith) (omega arith)
+    fate-cases (λ f. f .added ≤ suc (length h)) c h e (omega arith) (omega arith) (omega arith) (omega arith) (omega arith)
+
+-- what is held only falls
+pub held-small : (h : History) (e : Raw) → fate h e .held ≤ e .amount
+unfolding fate
+held-small [] e = omega arith
+held-small (c ∷ h) e =
+    let ih = held-small h e in fate-cases (λ f. f .held ≤ e .amount) c h e ih (omega arith) (omega arith) ih (omega arith)
 
 pub standing-small : {h : History} → Valid h → (e : Raw) → FieldsInRange e (kindOf (e .kind)) → fate h e .standing ≤ large
 unfolding fate
 standing-small empty e w = first-small e (sameOf (kindOf (e .kind)) kind.Bill) w
 standing-small (joins {r} {h} v j) e w =
     let ih = standing-small v e w in
-    fate-cases (λ f. f .standing ≤ large) (names r e) (kindOf (r .kind)) r e (fate h e) ih ih ih (omega (arith, accepts h r j .ranges .amount))
+    fate-cases (λ f. f .standing ≤ large) r h e ih ih ih (omega (arith, accepts h r j .ranges .amount)) ih
+
+-- sums of small numbers are small
+pub some-small : (t : Bool) (x : ℕ) → x ≤ large → cond t x 0 ≤ large
+some-small true x l = l
+some-small false x l = omega arith
+
+module _ (f : Reading) (all : History) where
+  pub total-small : (a : ℕ) → ((e : Raw) → FieldsInRange e (kindOf (e .kind)) → f (kindOf (e .kind)) e (fate all e) ≤ large) → {h : History} → Valid h →
+      total f all (entriesOf h a) ≤ large * length h
+  unfolding sum filter
+  total-small a small empty = omega arith
+  total-small a small (joins {r} {h} v j) =
+      rw total-filter
+      (omega (arith, total-small a small v, some-small (eqb (r .account) a) (f (kindOf (r .kind)) r (fate all r)) (small r (accepts h r j .ranges))))
+
+  pub taken-small : (n : ℕ) (es : History) → total f all (take n es) ≤ total f all es
+  unfolding sum
+  taken-small zero es = omega arith
+  taken-small (suc n) [] = omega arith
+  taken-small (suc n) (e ∷ es) = omega (arith, taken-small n es)
+
+pub paid-small : {h : History} → Valid h → (c : Raw) → paidBy h c ≤ large * length h
+paid-small {h} v c = total-small (paidUntil (c .day)) h (c .account) (λ e s. some-small (inWindow (c .day) (kindOf (e .kind)) e) (fate h e .standing) (standing-small v e s)) v
 
 -- an account's amounts
 pub record Small (n : ℕ) (b : Balance) : Type 0 where
@@ -70,17 +101,17 @@ either-small true x y p q = p
 either-small false x y p q = q
 
 -- no move of an entry in range takes them further
-module _ (r e : Raw) (f : Fate) (b : Balance) (l : Kind) (n : ℕ) (w : Small n b) (m : r .amount ≤ amountMost) where
+module _ (r e : Raw) (paid : ℕ) (f : Fate) (b : Balance) (l : Kind) (n : ℕ) (w : Small n b) (m : r .amount ≤ amountMost) where
   moved-amounts : billed (r .amount) (r .b) (r .a) ≤ large → interest (b .deposit) (b .rate) (r .day - b .deposited) ≤ large → f .standing ≤ large → (k : Kind) →
-      let c = moved (moveOf k l r b e f) b in (c .arrears ≤ large * suc n) × (c .credit ≤ large * suc n)
+      let c = moved (moveOf k l r b e paid f) b in (c .arrears ≤ large * suc n) × (c .credit ≤ large * suc n)
   moved-amounts p i s =
       let bill = sameOf l kind.Bill in
       every-kind _ (omega (arith, either-small bill (f .standing) (r .amount) s (omega arith), either-small bill (r .amount) (f .standing) (omega arith) s))
 
-  moved-deposit : (k : Kind) → moved (moveOf k l r b e f) b .deposit ≤ amountMost
+  moved-deposit : (k : Kind) → moved (moveOf k l r b e paid f) b .deposit ≤ amountMost
   moved-deposit = every-kind _ (omega arith)
 
-  moved-rate : (k : Kind) → r .a ≤ limitsOf k (r .a) .«a_high» → moved (moveOf k l r b e f) b .rate ≤ rateMost
+  moved-rate : (k : Kind) → r .a ≤ limitsOf k (r .a) .«a_high» → moved (moveOf k l r b e paid f) b .rate ≤ rateMost
   unfolding limitsOf
   moved-rate = every-kind _ (omega arith)
 
@@ -100,14 +131,15 @@ bounded (joins {r} {h} v j) a = go (bounded v a) (eqb (r .account) a)
         let p = accepts h r j in
         let s = p .ranges in
         let e = targetEntry (named h r) in
+        let paid = paidBy h r in
         let f = targetFate h (named h r) in
         let amounts =
-        moved-amounts r e f b (kindOf (e .kind)) (length h) w (s .amount) (billed-small (r .amount) (r .b) (r .a) (s .amount) (s .b) (s .a))
+        moved-amounts r e paid f b (kindOf (e .kind)) (length h) w (s .amount) (billed-small (r .amount) (r .b) (r .a) (s .amount) (s .b) (s .a))
         (interest-small (b .deposit) (b .rate) (r .day - b .deposited) (w .deposit) (w .rate) (omega (arith, p .day))) (named-small v r j (role h r j)) (kindOf (r .kind)) in
         record {
           arrears = amounts .0;
           credit = amounts .1;
-          deposit = moved-deposit r e f b (kindOf (e .kind)) (length h) w (s .amount) (kindOf (r .kind));
-          rate = moved-rate r e f b (kindOf (e .kind)) (length h) w (s .amount) (kindOf (r .kind)) (s .by-kind .a .1);
+          deposit = moved-deposit r e paid f b (kindOf (e .kind)) (length h) w (s .amount) (kindOf (r .kind));
+          rate = moved-rate r e paid f b (kindOf (e .kind)) (length h) w (s .amount) (kindOf (r .kind)) (s .by-kind .a .1);
         }
     go w false = omega arith

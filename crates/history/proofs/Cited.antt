@@ -1,13 +1,13 @@
--- Document 01's claims once more and in full, from demand 3 alone: no weaker statement of it, and none with a part left out, proves them.
+-- The documents' claims once more and in full, from demand 3 alone: no weaker statement of it, and none with a part left out, proves them.
 use mathlib.Core.Path.{_≡_, refl, sym, subst, _∙_}
-use Prim.Native.Nat.{ℕ, _+_, _*_, _/_, min, _≤_, _<_}
+use Prim.Native.Nat.{ℕ, _+_, _-_, _*_, _/_, min, _≤_, _<_}
 use native.Mathlib.Omega.{arith}
-use mathlib.Core.Bool.{true, cond, not, true≢false}
+use mathlib.Core.Bool.{true, cond, not, _&&_, true≢false}
 use mathlib.Core.List.{List, [], _∷_, _++_}
 use lib.Seq.{take-all}
 use borrow.Author.Tests.{leb-true}
 use Rattle.measures.specs.Cents.{most}
-use Rattle.entries.specs.Kinds.{kindOf}
+use Rattle.entries.specs.Kinds.{kindOf, sameOf}
 use Rattle.entries.specs.Ranges.{between}
 use Rattle.entries.specs.declared.raw.Raw.{Raw}
 use Rattle.entries.specs.declared.kinds.Kind.the-variants as kind
@@ -17,12 +17,12 @@ use Rattle.queries.specs.Chain.{chainAt, totalOf}
 use Rattle.queries.specs.Chain as chains
 use Rattle.queries.specs.Statements.{statementOf}
 use Rattle.queries.specs.declared.statements.StatementReply.{StatementReply}
-use Rattle.history.specs.History.{History, accounts, entries, refundPeriod, points, fate, amounts, entriesOf, toArrears, refundsPaid, customers}
-use Rattle.history.specs.Laws.{In, newest, older, AccountSums, sumsOf, Refunds, Once, Each, HasContribution}
+use Rattle.history.specs.History.{History, accounts, entries, refundPeriod, points, fate, total, amounts, entriesOf, settledBy, paidOutBy, toArrears, refundsPaid, customers, paidBy}
+use Rattle.history.specs.Laws.{In, newest, older, AccountSums, sumsOf, Refunds, Reduces, Once, Each, HasContribution}
 use Rattle.history.specs.Queries.{statementBy, statementIn}
 use Rattle.history.specs.Agreement.{Kept}
 use Rattle.history.specs.Calls.{Call, answersIn, historyOf}
-use Rattle.history.specs.Claim.{bookOf, answersOf}
+use Rattle.history.specs.Claim.{bookOf, answersOf, guaranteeHeldOf}
 use Rattle.history.specs.Witness.{calls, answers}
 use Rattle.history.proofs.Tests.{tested}
 use Rattle.history.proofs.Queries.{statement-same}
@@ -39,7 +39,9 @@ each-at P (r ∷ x) c g w = each-at P x c g (w .1)
 
 -- an account's sums with a statement's figures
 abbrev Balances : AccountSums → StatementReply → Type 0
-Balances s t = s .contributions + t .payments + s .deposits + s .interest + t .arrears ≡ t .bills + s .paidOut + s .retained + t .held + t .deposit + t .credit
+Balances s t =
+    s .contributions + t .payments + s .deposits + s .guarantees + s .interest + t .arrears
+    ≡ t .bills + s .paidOut + s .retained + t .held + t .deposit + s .guaranteeHeld + t .credit
 
 module _ (cs : List Call) where
   abbrev h : History
@@ -57,11 +59,11 @@ module _ (cs : List Call) where
   -- the sums, with the book's amounts
   conserved : (a : ℕ) → 1 ≤ a → a ≤ accounts →
       let s = sumsOf h a in
-      s .contributions + s .payments + s .deposits + s .interest + accountAt b a .arrears .0
-      ≡ s .bills + s .paidOut + s .retained + totalOf chains.heldOf (chainAt b a) + accountAt b a .deposit .0 + accountAt b a .credit .0
+      s .contributions + s .payments + s .deposits + s .guarantees + s .interest + accountAt b a .arrears .0
+      ≡ s .bills + s .paidOut + s .retained + totalOf chains.heldOf (chainAt b a) + accountAt b a .deposit .0 + totalOf guaranteeHeldOf (chainAt b a) + accountAt b a .credit .0
   conserved a l m =
       let d = demand3 cs in
-      omega (arith, d .lawful .conserved a, d .arrears a l m, d .credit a l m, d .deposit a l m, d .held a l m)
+      omega (arith, d .lawful .conserved a, d .arrears a l m, d .credit a l m, d .deposit a l m, d .held a l m, d .guarantee-held a l m)
 
   -- and with those of every complete statement
   balanced : (a n : ℕ) → statementOf b a n .complete ≡ true → Balances (sumsOf h a) (statementOf b a n)
@@ -74,12 +76,25 @@ module _ (cs : List Call) where
   divided : (e : Raw) → In e h → kindOf (e .kind) ≡ kind.Contribution → e .amount ≡ toArrears h e + refundsPaid h e + fate h e .held + fate h e .retained
   divided = demand3 cs .lawful .divided
 
+  guaranteed : (e : Raw) → In e h → kindOf (e .kind) ≡ kind.Guarantee →
+      e .amount ≡ settledBy kind.Reduction h e + paidOutBy kind.Reduction h e + fate h e .held + fate h e .retained
+  guaranteed = demand3 cs .lawful .guaranteed
+
   counted : (e : Raw) → In e h → kindOf (e .kind) ≡ kind.Contribution → fate h e .added ≡ customers h e
   counted e m k = omega (arith, demand3 cs .lawful .counted e m k)
 
   refunds : (x g : History) (c e : Raw) → h ≡ x ++ c ∷ g → In e g → kindOf (c .kind) ≡ kind.AddedCustomer → points c e ≡ true →
       amounts g c .settled + amounts g c .paidOut ≡ min (fate g e .held) (e .amount * c .a / (e .a * (customers g e + 2)))
   refunds x g c e q m k p = omega (arith, each-at Refunds x c g (subst (λ y. Each Refunds y) q (demand3 cs .lawful .refunds)) e m k p)
+
+  -- the payments of the 365 days that end on the reduction's, at their standing amounts
+  reductions : (x g : History) (c e : Raw) → h ≡ x ++ c ∷ g → In e g → kindOf (c .kind) ≡ kind.Reduction → points c e ≡ true →
+      amounts g c .settled + amounts g c .paidOut
+      ≡ min (fate g e .held) (total (λ k p f. cond (sameOf k kind.Payment && between (p .day) (c .day + 1 - 365) (c .day)) (f .standing) 0) g (entriesOf g (c .account)) / 10)
+  reductions x g c e q m k p = each-at Reduces x c g (subst (λ y. Each Reduces y) q (demand3 cs .lawful .reductions)) e m k p
+
+  one-open : (a : ℕ) → total (λ k e f. cond (sameOf k kind.Guarantee && not (f .closed)) 1 0) h (entriesOf h a) ≤ 1
+  one-open = demand3 cs .lawful .one-open
 
   contributed : (x g : History) (c : Raw) → h ≡ x ++ c ∷ g → kindOf (c .kind) ≡ kind.AddedCustomer → (e : Raw) × In e g × (kindOf (e .kind) ≡ kind.Contribution) × (points c e ≡ true)
   contributed x g c q k =
@@ -102,9 +117,12 @@ module _ (cs : List Call) where
       let w = d .bounded in
       omega (arith, w .arrears a, w .credit a, w .deposit a, d .arrears a l m, d .credit a l m, d .deposit a l m)
 
+  counted-payments : (c : Raw) → paidBy h c < most
+  counted-payments c = omega (arith, demand3 cs .bounded .paid c)
+
   counts : (e : Raw) → (b .count ≤ entries) × (fate h e .added < 65535)
   counts e = let d = demand3 cs in omega (arith, d .kept .agrees .counted, d .bounded .room, d .bounded .added e)
 
--- the book's own answers to the list of document 01's figures
+-- the book's own answers to the witness's list
 shown : answersOf calls ≡ answers
 shown = demand3 calls .answered ∙ witnessed .answered

@@ -1,16 +1,22 @@
 -- Demand 3, from the law of one call over lists of calls.
 use mathlib.Core.Path.{_≡_, refl, ap}
 use mathlib.Core.List.{List}
+use Rattle.entries.specs.Kinds.{kindOf}
+use Rattle.entries.specs.Data.{entryOf}
+use Rattle.entries.specs.declared.raw.Raw.{Raw}
+use Rattle.entries.specs.declared.kinds.Kind.the-variants as kind
+use Rattle.entries.specs.declared.data.Particulars.{Particulars}
 use Rattle.rules.specs.declared.accounts.Account.{Account}
 use Rattle.book.specs.declared.Book.{Book}
 use Rattle.queries.specs.Chain as chains
 use Rattle.carry.specs.Carry.{carryRefusalOf}
-use Rattle.history.specs.History.{History, answersAlong, heldAmount}
-use Rattle.history.specs.Agreement.{Kept}
+use Rattle.history.specs.History.{History, answersAlong, heldOf, heldAmount, fate}
+use Rattle.history.specs.Agreement.{keptEntry, Kept}
 use Rattle.history.specs.Queries.{Query, statement, contribution, save, stated, given, queryIn}
 use Rattle.history.specs.Calls.{Call, posting, carryOver, query, posted, queried, callIn, historyAfter, historyOf}
-use Rattle.history.specs.Claim.{queryOf, callOf, bookAfter, bookOf, Demand3}
+use Rattle.history.specs.Claim.{queryOf, callOf, bookAfter, bookOf, guaranteeHeldOf, Demand3}
 use Rattle.history.proofs.Laws.{laws}
+use Rattle.history.proofs.Tables.{kept-read}
 use Rattle.history.proofs.Agreement.{agreement}
 use Rattle.history.proofs.Carry.{results-same, carried-kept}
 use Rattle.history.proofs.Calls.{lists-same}
@@ -35,6 +41,10 @@ pub calls-same : {b : Book} {h : History} → Kept b h → (cs : List Call) →
     Kept (bookAfter b cs) (historyAfter h cs) × (answersAlong callOf b cs ≡ answersAlong callIn h cs)
 calls-same {b} {h} w cs = lists-same callOf callIn (λ b h cs. Kept b h) (λ b h c cs v. call-same v c) b h cs w
 
+guarantee-read : (all h : History) (e : Raw) → guaranteeHeldOf (keptEntry all h e) ≡ heldOf kind.Guarantee (kindOf (e .kind)) e (fate all e)
+unfolding guaranteeHeldOf entryOf
+guarantee-read all h e = ap (λ (n : Particulars). n .«guarantee_held» .0) (kept-read (kindOf (e .kind)) e (fate all e) _ _ .0)
+
 pub demand3 : Demand3
 demand3 cs =
     let (w, answered) = calls-same (agreement .fresh) cs in
@@ -45,6 +55,7 @@ demand3 cs =
       credit = λ a l m. ap (λ (x : Account). x .credit .0) (w .agrees .account a l m);
       deposit = λ a l m. ap (λ (x : Account). x .deposit .0) (w .agrees .account a l m);
       held = λ a l m. rw (agreement .chain (bookOf cs) h w a l m) (reads-total chains.heldOf heldAmount h (held-read h) (chain-reads h h a));
+      guarantee-held = λ a l m. rw (agreement .chain (bookOf cs) h w a l m) (reads-total guaranteeHeldOf (heldOf kind.Guarantee) h (guarantee-read h) (chain-reads h h a));
       kept = w;
       lawful = laws .lawful h (w .valid);
       bounded = laws .bounded h (w .valid);

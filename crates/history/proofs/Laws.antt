@@ -8,16 +8,20 @@ use Rattle.history.specs.History.{History, judge, joined, offer, offers}
 use Rattle.history.specs.Laws.{Valid, empty, joins, Lawful, Bounded, Laws}
 use Rattle.history.proofs.Accept.{fits}
 use Rattle.history.proofs.Names.{contributed, in-period, once}
-use Rattle.history.proofs.Conserve.{conserve, divide, refunds-all}
-use Rattle.history.proofs.Bound.{bounded, added-small}
+use Rattle.history.proofs.Conserve.{conserve, divide, refunds-all, reductions-all}
+use Rattle.history.proofs.Open.{one-open}
+use Rattle.history.proofs.Bound.{bounded, added-small, paid-small}
 
 lawful : (h : History) → Valid h → Lawful h
 lawful h v =
     record {
       conserved = λ a. conserve v a;
-      divided = λ e m c. divide v e m c .0;
+      divided = λ e m c. rw c at (divide v e m .0);
+      guaranteed = λ e m c. rw c at (divide v e m .0);
       refunds = refunds-all v;
-      counted = λ e m c. omega (arith, divide v e m c);
+      counted = λ e m c. divide v e m .1;
+      reductions = reductions-all v;
+      one-open = one-open v;
       contributed = contributed v;
       in-period = λ c e m n k p. omega (arith, in-period v c e m n k p);
       once = once v;
@@ -31,6 +35,7 @@ within h v =
       credit = λ a. omega (arith, fits v, bounded v a .credit);
       deposit = λ a. omega (arith, bounded v a .deposit);
       added = λ e. omega (arith, fits v, added-small h e);
+      paid = λ c. omega (arith, fits v, paid-small v c);
     }
 
 -- what holds of a history when an entry is offered

@@ -2,6 +2,7 @@ pub mod Tests
 pub mod Accept
 pub mod Names
 pub mod Conserve
+pub mod Open
 pub mod Bound
 pub mod Tables
 pub mod Search
@@ -10,6 +11,7 @@ pub mod Stored
 pub mod Agreement
 pub mod Determined
 pub mod Laws
+pub mod Guarantees
 pub mod Images
 pub mod Calls
 pub mod Carry

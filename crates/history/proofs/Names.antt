@@ -13,7 +13,7 @@ use Rattle.entries.specs.declared.kinds.Kind.{Kind}
 use Rattle.entries.specs.declared.kinds.Kind.the-variants as kind
 use Rattle.entries.proofs.Ranges.{both-true}
 use Rattle.entries.proofs.KindsLaws.{same-kind}
-use Rattle.history.specs.History.{periodEnd, History, lastSerial, naming, points, names, Target, absent, present, find, Fate, postedFate, fateAfter, fate, Amounts, judge, addedUp, customerOf}
+use Rattle.history.specs.History.{periodEnd, History, lastSerial, naming, suits, points, names, Target, absent, present, find, Fate, postedFate, fateAfter, fate, paidBy, Amounts, judge, addedUp, givesBack}
 use Rattle.history.specs.Laws.{Valid, empty, joins, In, newest, older, Contributed, Again, Once, Each, HasContribution}
 use Rattle.history.proofs.Accept.{accepts, Role, alone, upon, role, accepts-upon}
 
@@ -112,28 +112,35 @@ pick : {A : Type 0} {x y : A} (P : A → Type 0) (t : Bool) → P x → P y → 
 pick P true p q = p
 pick P false p q = q
 
--- what an older fate has, and each of the three changes, a fate has
-pub fate-cases : (P : Fate → Type 0) (t : Bool) (k : Kind) (c e : Raw) (f : Fate) → P f → P (fateAfter kind.AddedCustomer c e f) →
-    P (fateAfter kind.Expiry c e f) → P (fateAfter kind.Correction c e f) → P (cond t (fateAfter k c e f) f)
-fate-cases P t k c e f same added expired corrected =
-    pick P t (pick P (sameOf k kind.AddedCustomer) added (pick P (sameOf k kind.Expiry) expired (pick P (sameOf k kind.Correction) corrected same))) same
+-- what an older fate has, and each change of it by an entry c, a fate has; 7 and 11 make the same change
+pub fate-cases : (P : Fate → Type 0) (c : Raw) (h : History) (e : Raw) → let f = fate h e in
+    P f → P (fateAfter kind.AddedCustomer c e (paidBy h c) f) → P (fateAfter kind.Expiry c e (paidBy h c) f) → P (fateAfter kind.Correction c e (paidBy h c) f) →
+    P (fateAfter kind.Reduction c e (paidBy h c) f) → P (fate (c ∷ h) e)
+unfolding fate
+fate-cases P c h e same added closed corrected reduced =
+    let k = kindOf (c .kind) in
+    pick P (names c e)
+    (pick P (sameOf k kind.AddedCustomer) added
+    (pick P (sameOf k kind.Expiry || sameOf k kind.Retention) closed (pick P (sameOf k kind.Correction) corrected (pick P (sameOf k kind.Reduction) reduced same))))
+    same
 
 -- as the history grows
 pub fate-miss : (c : Raw) (h : History) (x : Raw) → names c x ≡ false → fate (c ∷ h) x ≡ fate h x
 unfolding fate
 fate-miss c h x e = rw e
 
-pub fate-hit : (c : Raw) (h : History) (x : Raw) → names c x ≡ true → fate (c ∷ h) x ≡ fateAfter (kindOf (c .kind)) c x (fate h x)
+pub fate-hit : (c : Raw) (h : History) (x : Raw) → names c x ≡ true → fate (c ∷ h) x ≡ fateAfter (kindOf (c .kind)) c x (paidBy h c) (fate h x)
 unfolding fate
 fate-hit c h x e = rw e
 
-pub customer-miss : (c x : Raw) → names c x ≡ false → customerOf x c ≡ false
+-- what is not named is not given back, by a kind that names
+pub gives-miss : (k : Kind) → naming k ≡ true → (c x : Raw) → names c x ≡ false → givesBack k x c ≡ false
 unfolding names
-customer-miss c x = let k = kindOf (c .kind) in go (sameOf k kind.AddedCustomer) (sameOf k kind.Expiry || sameOf k kind.Correction)
+gives-miss k n c x e = go (sameOf (kindOf (c .kind)) k) refl
   where
-    go : (s t : Bool) → ((s || t) && points c x) ≡ false → (s && points c x) ≡ false
-    go true t e = e
-    go false t e = refl
+    go : (t : Bool) → sameOf (kindOf (c .kind)) k ≡ t → (t && points c x) ≡ false
+    go true p = rw (ap naming (same-kind (kindOf (c .kind)) k p) ∙ n) at e
+    go false p = refl
 
 -- an entry whose serial is new has the fate of a posted one
 unnamed : {h : History} → Valid h → (r : Raw) → lastSerial h (r .node) < r .serial → fate h r ≡ postedFate r
@@ -143,20 +150,22 @@ unnamed (joins {r = c} {h} v j) r n =
     let before : lastSerial h (r .node) < r .serial = omega (arith, last-up h c (r .node) j) in
     fate-miss c h r (named-old v c r (role h c j) before) ∙ unnamed v r before
 
-no-customers : {h : History} → Valid h → (f : Amounts → ℕ) (r : Raw) → lastSerial h (r .node) < r .serial → addedUp f (customerOf r) h ≡ 0
-unfolding addedUp
-no-customers empty f r n = refl
-no-customers (joins {r = c} {h} v j) f r n =
-    let before : lastSerial h (r .node) < r .serial = omega (arith, last-up h c (r .node) j) in
-    rw (customer-miss c r (named-old v c r (role h c j) before)) (omega (arith, no-customers v f r before))
+module _ (k : Kind) (n : naming k ≡ true) (f : Amounts → ℕ) (r : Raw) where
+  none-given : {h : History} → Valid h → lastSerial h (r .node) < r .serial → addedUp f (givesBack k r) h ≡ 0
+  unfolding addedUp
+  none-given empty l = refl
+  none-given (joins {r = c} {h} v j) l =
+      let before : lastSerial h (r .node) < r .serial = omega (arith, last-up h c (r .node) j) in
+      rw (gives-miss k n c r (named-old v c r (role h c j) before)) (omega (arith, none-given v before))
 
--- so has one that joins, and no added customer is its own
+  -- nothing is given back of an entry that joins
+  pub given-new : {h : History} → Valid h → judge h r ≡ 0 → addedUp f (givesBack k r) (r ∷ h) ≡ 0
+  unfolding addedUp
+  given-new {h} v j = rw (gives-miss k n r r (not-itself v r j)) (omega (arith, none-given v (accepts h r j .serial-above)))
+
+-- an entry that joins has the fate of a posted one
 pub fate-new : {h : History} → Valid h → (r : Raw) → judge h r ≡ 0 → fate (r ∷ h) r ≡ postedFate r
 fate-new {h} v r j = fate-miss r h r (not-itself v r j) ∙ unnamed v r (accepts h r j .serial-above)
-
-pub customers-new : {h : History} → Valid h → (f : Amounts → ℕ) (r : Raw) → judge h r ≡ 0 → addedUp f (customerOf r) (r ∷ h) ≡ 0
-unfolding addedUp
-customers-new {h} v f r j = rw (customer-miss r r (not-itself v r j)) (omega (arith, no-customers v f r (accepts h r j .serial-above)))
 
 -- c names nothing of a list
 pub data Misses (c : Raw) : History → Type 0 where
@@ -221,45 +230,40 @@ pointed-once v c x e m n p q =
     let b = pointed c e q in
     unique v x e m n (a .node ∙ sym (b .node)) (a .serial ∙ sym (b .serial))
 
--- what an accepted entry names, among the entries
-pub names-found : {h : History} → Valid h → (c : Raw) (i : ℕ) (e : Raw) → find h c ≡ present i e → (x : Raw) → In x h → names c x ≡ true → x ≡ e
-unfolding names
-names-found v c i e f x m n = let w = hit v c i e f in pointed-once v c x e m (w .member) (both-true (naming (kindOf (c .kind))) (points c x) n .1) (w .aimed)
+-- an entry at which an accepted one of a kind that names points is the one that it finds
+pub record Aimed (h : History) (c e : Raw) : Type 0 where
+  pub place : ℕ
+  pub at : find h c ≡ present place e
+  pub suited : suits (kindOf (c .kind)) (kindOf (e .kind)) ≡ true
+
+pub aimed : {h : History} → Valid h → (c : Raw) → judge h c ≡ 0 → naming (kindOf (c .kind)) ≡ true → (e : Raw) → In e h → points c e ≡ true → Aimed h c e
+aimed {h} v c j n e m p = go (role h c j)
+  where
+    go : Role h c → Aimed h c e
+    go (alone o) = absurd (true≢false (sym n ∙ o))
+    go (upon o i x f s) =
+        let w = hit v c i x f in
+        let same : e ≡ x = pointed-once v c e x m (w .member) p (w .aimed) in
+        record { place = i; at = f ∙ ap (λ y. present i y) (sym same); suited = rw same s }
 
 pub names-points : (c x : Raw) → naming (kindOf (c .kind)) ≡ true → points c x ≡ true → names c x ≡ true
 unfolding names
 names-points c x k p = rw (k, p)
 
 -- LAW: each added customer has its contribution, and a day in its period
-pub record Found (h : History) (c : Raw) : Type 0 where
-  pub place : ℕ
-  pub entry : Raw
-  pub at : find h c ≡ present place entry
-  pub contribution : kindOf (entry .kind) ≡ kind.Contribution
-  pub day : c .day < periodEnd entry
-
-pub added-found : {h : History} (c : Raw) → judge h c ≡ 0 → kindOf (c .kind) ≡ kind.AddedCustomer → Found h c
-added-found {h} c j k = go (role h c j)
-  where
-    go : Role h c → Found h c
-    go (alone n) = absurd (true≢false (sym (ap naming k) ∙ n))
-    go (upon n i e f s) =
-        record {
-          place = i;
-          entry = e;
-          at = f;
-          contribution = same-kind _ _ (rw k at s);
-          day = leb-false _ _ (rw k at (accepts-upon h c j n i e f .period-runs));
-        }
-
 abbrev Refunded : History → Raw → Type 0
 Refunded h c = (w : Contributed h c) × (c .day < periodEnd (w .entry))
 
 refunded-new : {h : History} → Valid h → (r : Raw) → judge h r ≡ 0 → kindOf (r .kind) ≡ kind.AddedCustomer → Refunded h r
-refunded-new {h} v r j k =
-    let w = added-found r j k in
-    let x = hit v r (w .place) (w .entry) (w .at) in
-    (record { entry = w .entry; member = x .member; contribution = w .contribution; aimed = x .aimed }, w .day)
+refunded-new {h} v r j k = go (role h r j)
+  where
+    go : Role h r → Refunded h r
+    go (alone n) = absurd (true≢false (sym (ap naming k) ∙ n))
+    go (upon n i e f s) =
+        let x = hit v r i e f in (
+          record { entry = e; member = x .member; contribution = same-kind _ _ (rw k at s); aimed = x .aimed },
+          leb-false _ _ (rw k at (accepts-upon h r j n i e f .period-runs)),
+        )
 
 pub contributed : {h : History} → Valid h → Each HasContribution h
 contributed empty = tt
@@ -288,7 +292,7 @@ corrected-by (r ∷ h) d e (newest q) k p =
     let corrects : kindOf (r .kind) ≡ kind.Correction = subst (λ (y : Raw). kindOf (y .kind) ≡ kind.Correction) (sym q) k in
     rw (hitting, corrects)
 corrected-by (r ∷ h) d e (older t) k p =
-    let ih = corrected-by h d e t k p in fate-cases (λ f. f .corrected ≡ true) (names r e) (kindOf (r .kind)) r e (fate h e) ih ih ih refl
+    let ih = corrected-by h d e t k p in fate-cases (λ f. f .corrected ≡ true) r h e ih ih ih refl ih
 
 pub once : {h : History} → Valid h → Each Once h
 once empty = tt

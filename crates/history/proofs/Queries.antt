@@ -1,6 +1,6 @@
 -- A statement and a contribution query give what the history has.
 use mathlib.Core.Path.{_≡_, refl, ap}
-use Prim.Native.Nat.{ℕ, zero, suc, _*_, min, _≤_}
+use Prim.Native.Nat.{ℕ, zero, suc, min, _≤_}
 use native.Mathlib.Omega.{arith}
 use native.Mathlib.Nat.{min-eq-left}
 use mathlib.Core.Bool.{Bool, true, false, cond, not, _||_}
@@ -30,45 +30,14 @@ use Rattle.queries.specs.Statements.{statementReplyOf, givenOf, statementOf}
 use Rattle.queries.specs.Contributions.{contributionReplyOf, contributionFiguresOf, contributionQueryOf, knownOf}
 use Rattle.queries.specs.declared.statements.StatementAnswer.the-variants as statement
 use Rattle.queries.specs.declared.contributions.ContributionAnswer.the-variants as contribution
-use Rattle.history.specs.History.{History, accounts, names, Target, find, fate, targetEntry, pointerTo, filter, entriesOf, Reading, total, standingAmount, heldAmount, toArrears, refundsPaid}
-use Rattle.history.specs.Laws.{Valid, empty, joins}
+use Rattle.history.specs.History.{History, accounts, Target, find, fate, targetEntry, pointerTo, filter, entriesOf, Reading, sum, total, standingAmount, heldAmount, toArrears, refundsPaid}
 use Rattle.history.specs.Agreement.{keptEntry, Kept, keptLink, keptWalk}
 use Rattle.history.specs.Queries.{statementBy, statementIn, contributionBy, contributionIn}
-use Rattle.history.proofs.Accept.{accepts, fits, FieldsInRange, correctable}
-use Rattle.history.proofs.Names.{fate-cases}
-use Rattle.history.proofs.Conserve.{total-filter}
-use Rattle.history.proofs.Bound.{large, standing-small}
+use Rattle.history.proofs.Accept.{fits, correctable}
+use Rattle.history.proofs.Bound.{held-small, standing-small, some-small, total-small, taken-small}
 use Rattle.history.proofs.Tables.{kept-read}
 use Rattle.history.proofs.Search.{Finds, neither, both, finds}
 use Rattle.history.proofs.Agreement.{agreement}
-
--- what is held only falls
-held-small : (h : History) (e : Raw) → fate h e .held ≤ e .amount
-unfolding fate
-held-small [] e = omega arith
-held-small (c ∷ h) e =
-    let ih = held-small h e in
-    fate-cases (λ f. f .held ≤ e .amount) (names c e) (kindOf (c .kind)) c e (fate h e) ih (omega arith) (omega arith) ih
-
-some-small : (t : Bool) (x : ℕ) → x ≤ large → cond t x 0 ≤ large
-some-small true x l = l
-some-small false x l = omega arith
-
--- sums of small numbers are small
-module _ (f : Reading) (all : History) where
-  total-small : (a : ℕ) → ((e : Raw) → FieldsInRange e (kindOf (e .kind)) → f (kindOf (e .kind)) e (fate all e) ≤ large) → {h : History} → Valid h →
-      total f all (entriesOf h a) ≤ large * length h
-  unfolding total filter
-  total-small a small empty = omega arith
-  total-small a small (joins {r} {h} v j) =
-      rw total-filter
-      (omega (arith, total-small a small v, some-small (eqb (r .account) a) (f (kindOf (r .kind)) r (fate all r)) (small r (accepts h r j .ranges))))
-
-  taken-small : (n : ℕ) (es : History) → total f all (take n es) ≤ total f all es
-  unfolding total
-  taken-small zero es = omega arith
-  taken-small (suc n) [] = omega arith
-  taken-small (suc n) (e ∷ es) = omega (arith, taken-small n es)
 
 -- a part of a chain, and its entries
 pub data Reads (all : History) : List Entry → History → Type 0 where
@@ -97,7 +66,7 @@ reads-length (link h w) = ap suc (reads-length w)
 -- sums along the chain are the history's
 pub reads-total : (g : Entry → ℕ) (f : Reading) (all : History) → ((h : History) (e : Raw) → g (keptEntry all h e) ≡ f (kindOf (e .kind)) e (fate all e)) →
     {es : List Entry} {rs : History} → Reads all es rs → totalOf g es ≡ total f all rs
-unfolding totalOf total
+unfolding totalOf sum
 reads-total g f all same none = refl
 reads-total g f all same (link h {e} w) = omega (arith, reads-total g f all same w, same h e)
 

@@ -2,31 +2,40 @@
 use mathlib.Core.Path.{_≡_, refl, sym, ap, _∙_}
 use Prim.Native.Nat.{ℕ, _+_, _-_, _≤_, _<_}
 use native.Mathlib.Omega.{arith}
-use mathlib.Core.Bool.{Bool, true, false, cond, _&&_}
+use native.Mathlib.Nat.{add-zero, min-eq-left}
+use mathlib.Core.Bool.{Bool, true, false, cond, _&&_, _||_}
 use mathlib.Core.List.{List, [], _∷_}
 use lib.ListN.{length, getD}
-use lib.Dec.{eqb}
-use borrow.Author.Tests.{eqb-true, eqb-false, ne-eqb, le-ltb}
-use Rattle.entries.specs.Kinds.{kindOf, namesOf}
+use lib.Dec.{eqb, leb, ltb}
+use borrow.Author.Tests.{eqb-true, eqb-false, ne-eqb, le-ltb, ltb-true, ltb-false, leb-true, leb-false}
+use Rattle.measures.specs.Cents.{cents, plusOf, most}
+use Rattle.entries.specs.Kinds.{kindOf, sameOf, namesOf}
 use Rattle.entries.specs.Ranges.{between}
 use Rattle.entries.specs.Data.{noEntry, entryOf, pointsAt}
 use Rattle.entries.specs.declared.raw.Raw.{Raw}
 use Rattle.entries.specs.declared.kinds.Kind.{Kind}
+use Rattle.entries.specs.declared.kinds.Kind.the-variants as kind
 use Rattle.entries.specs.declared.data.Entry.{Entry}
 use Rattle.entries.proofs.Ranges.{inside}
+use Rattle.rules.specs.Windows.{paidWithin}
+use Rattle.rules.specs.Windows as windows
 use Rattle.rules.specs.declared.accounts.Account.{Account}
 use Rattle.changes.specs.declared.Found.{Found}
 use Rattle.changes.specs.declared.Found.the-variants.{At, Nothing}
 use Rattle.book.specs.Serials.{lastOf}
 use Rattle.book.specs.Chain as chains
-use Rattle.book.specs.Chain.{endsOf, startOf, walkOf, soughtIn}
-use Rattle.book.specs.Posting.{accountAt, lookupOf}
+use Rattle.book.specs.Chain.{endsOf, startOf, walkOf, paidOver, soughtIn}
+use Rattle.book.specs.Posting.{accountAt, lookupOf, paidOf}
 use Rattle.book.specs.declared.Book.{Book}
 use Rattle.book.proofs.Chain.{place-link, walk-zero, walk-link}
-use Rattle.history.specs.History.{History, accounts, entries, lastSerial, naming, points, Target, absent, present, find, named, targetEntry, targetFate, Balance, balance, refusals}
+use Rattle.history.specs.History.{History, accounts, entries, windowDays, lastSerial, naming, points, Target, absent, present, find, named, filter, entriesOf, sum, paidUntil, fate, total, paidBy, targetEntry, targetFate, Balance, balance, refusals}
 use Rattle.history.specs.Images.{newestOf}
-use Rattle.history.specs.Agreement.{keptAccount, keptEntry, Placed, start, more, Agrees, keptLink, keptWalk}
-use Rattle.history.proofs.Tables.{Same, rows, rowsFrom, own-same, missing-same, naming-same}
+use Rattle.history.specs.Agreement.{accountIn, keptEntry, Placed, start, more, Agrees, keptLink, keptWalk}
+use Rattle.history.specs.Laws.{Valid}
+use Rattle.history.proofs.Accept.{fits}
+use Rattle.history.proofs.Conserve.{total-filter}
+use Rattle.history.proofs.Bound.{paid-small}
+use Rattle.history.proofs.Tables.{Same, kept-read, rows, rowsFrom, own-same, missing-same, naming-same}
 
 abbrev pub placeOf : Target → Found
 placeOf absent = Nothing
@@ -78,6 +87,69 @@ pub found-at : {all : History} {x : chains.Sought} {s : Target} → Finds all x 
 found-at neither i e q = let z : _≡_ {A = ℕ} 0 1 = cc in absurd (omega arith)
 found-at (both g) i e q = (g, (cc))
 
+-- the two windows are one
+window-same : (x d : ℕ) → windows.inWindow x d ≡ between x (d + 1 - windowDays) d
+unfolding between
+window-same x d = go (leb x d) (ltb d (x + windowDays)) refl (leb first x) refl
+  where
+    first : ℕ
+    first = d + 1 - windowDays
+
+    go : (t u : Bool) → ltb d (x + windowDays) ≡ u → (w : Bool) → leb first x ≡ w → (t && u) ≡ (w && t)
+    go true true p true q = refl
+    go true true p false q = absurd (omega (arith, ltb-true d (x + windowDays) p, leb-false first x q))
+    go true false p true q = absurd (omega (arith, ltb-false d (x + windowDays) p, leb-true first x q))
+    go true false p false q = refl
+    go false u p true q = refl
+    go false u p false q = refl
+
+-- the payments that a reduction counts, along the account's chain
+module _ (all : History) (d a : ℕ) where
+  within-same : (h : History) (e : Raw) → paidWithin (keptEntry all h e) d ≡ cents (paidUntil d (kindOf (e .kind)) e (fate all e))
+  unfolding paidWithin entryOf
+  within-same h e =
+      rw (kept-read (kindOf (e .kind)) e (fate all e) _ _ .0, window-same (e .day) d)
+      (go (sameOf (kindOf (e .kind)) kind.Bill) (sameOf (kindOf (e .kind)) kind.Payment) (between (e .day) (d + 1 - windowDays) d) (fate all e .standing))
+    where
+      go : (s t u : Bool) (n : ℕ) → cond (t && u) (cents (cond (s || t) n 0)) (cents 0) ≡ cents (cond (t && u) n 0)
+      go true true true n = refl
+      go false true true n = refl
+      go s true false n = refl
+      go s false u n = refl
+
+  paid-over : (h : History) (x : ℕ) → x + total (paidUntil d) all (entriesOf h a) ≤ most →
+      paidOver d (cents x) (keptWalk all h a) ≡ cents (x + total (paidUntil d) all (entriesOf h a))
+  unfolding paidOver keptWalk sum filter
+  paid-over [] x l = rw (add-zero x) refl
+  paid-over (e ∷ h) x l = go (λ y m. paid-over h y m) (eqb (e .account) a) (rw total-filter at l)
+    where
+      v : ℕ
+      v = paidUntil d (kindOf (e .kind)) e (fate all e)
+
+      go : ((y : ℕ) → y + total (paidUntil d) all (entriesOf h a) ≤ most → paidOver d (cents y) (keptWalk all h a) ≡ cents (y + total (paidUntil d) all (entriesOf h a))) →
+          (t : Bool) → x + (cond t v 0 + total (paidUntil d) all (entriesOf h a)) ≤ most →
+          paidOver d (cents x) (cond t (keptLink all h e ∷ keptWalk all h a) (keptWalk all h a)) ≡ cents (x + total (paidUntil d) all (cond t (e ∷ entriesOf h a) (entriesOf h a)))
+      go ih true l =
+          let more : plusOf (cents x) (paidWithin (keptEntry all h e) d) ≡ cents (x + v) = rw (within-same h e) (ap cents (min-eq-left (omega arith))) in
+          ap (λ s. paidOver d s (keptWalk all h a)) more ∙ ih (x + v) (omega arith) ∙ ap cents (omega arith)
+      go ih false l = ih x (omega arith)
+
+module _ {b : Book} {h : History} (w : Agrees b h) (v : Valid h) where
+  pub paid-same : (r : Raw) → between (r .account) 1 accounts ≡ true →
+      paidOf b r ≡ cents (cond (sameOf (kindOf (r .kind)) kind.Reduction) (paidBy h r) 0)
+  unfolding paidOf
+  paid-same r t = go (sameOf (kindOf (r .kind)) kind.Reduction)
+    where
+      over : paidOver (r .day) (cents 0) (walkOf (b .entries) entries (accountAt b (r .account) .newest)) ≡ cents (paidBy h r)
+      over =
+          let i = inside (r .account) 1 accounts t in
+          rw (w .account (r .account) (i .0) (i .1), walk h (b .entries) (r .account) (w .rows) (fits v) entries (fits v))
+          (paid-over h (r .day) (r .account) h 0 (omega (arith, paid-small v r, fits v)) ∙ ap cents (omega arith))
+
+      go : (u : Bool) → cond u (paidOver (r .day) (cents 0) (walkOf (b .entries) entries (accountAt b (r .account) .newest))) (cents 0) ≡ cents (cond u (paidBy h r) 0)
+      go true = over
+      go false = refl
+
 module _ {b : Book} {h : History} (w : Agrees b h) (m : length h ≤ entries) where
   pub lookup-same : (r : Raw) → between (r .account) 1 accounts ≡ true → Finds h (lookupOf b r) (named h r)
   unfolding lookupOf named startOf soughtIn
@@ -106,7 +178,7 @@ module _ {b : Book} {h : History} (w : Agrees b h) (m : length h ≤ entries) wh
       bal = balance h (r .account)
 
       acc : Account
-      acc = keptAccount bal (newestOf h (r .account))
+      acc = accountIn h (r .account)
 
       go : (n : Bool) → naming k ≡ n → (s : Target) {x : chains.Sought} → Finds h x (cond n s absent) →
           Same (rows r k acc n x) (rowsFrom 8 (refusals h r k (targetEntry (cond n s absent)) (targetFate h (cond n s absent)) bal))

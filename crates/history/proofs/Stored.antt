@@ -10,11 +10,12 @@ use lib.Seq.{getD-set-same, getD-set-other}
 use borrow.Author.Tests.{ne-eqb, le-ltb}
 use Rattle.entries.specs.Data.{noEntry, entryOf, withOf}
 use Rattle.entries.specs.declared.raw.Raw.{Raw}
+use Rattle.entries.specs.declared.kinds.Kind.the-variants as kind
 use Rattle.entries.specs.declared.data.Entry.{Entry}
 use Rattle.book.specs.Chain.{slotOf}
 use Rattle.history.specs.History.{History, accounts, names, addedUp}
 use Rattle.history.specs.Agreement.{dataIn, keptEntry, Placed, start, more}
-use Rattle.history.proofs.Names.{Misses, none, miss, Hits, first, later, fate-miss, customer-miss}
+use Rattle.history.proofs.Names.{Misses, none, miss, Hits, first, later, fate-miss, gives-miss}
 
 -- an account's place
 pub slot-at : (a : ℕ) → 1 ≤ a → a ≤ accounts → slotOf a ≡ a - 1
@@ -23,7 +24,7 @@ slot-at a l m = simp (ne-eqb a 0 (λ q. omega arith), le-ltb accounts a (omega a
 
 kept-miss : (c : Raw) (h g : History) (x : Raw) → names c x ≡ false → keptEntry (c ∷ h) g x ≡ keptEntry h g x
 unfolding addedUp
-kept-miss c h g x e = rw (fate-miss c h x e, customer-miss c x e) (simp zero-add)
+kept-miss c h g x e = rw (fate-miss c h x e, gives-miss kind.AddedCustomer refl c x e) (simp zero-add)
 
 -- a store behind the rows
 pub rows-past : {all : History} {es : List Entry} {h : History} → Placed all es h → (j : ℕ) (x : Entry) → length h ≤ j → Placed all (set es j x) h

@@ -8,6 +8,8 @@ use lib.ListN.{length}
 use lib.Dec.{eqb, leb, ltb}
 use borrow.Author.Tests.{eqb-true, le-ltb, not-false}
 use Rattle.measures.specs.Cents.{cents}
+use Rattle.measures.specs.Days.{day}
+use Rattle.measures.specs.declared.Cents.{Cents}
 use Rattle.entries.specs.Kinds.{kindOf, namesOf, misnamesOf, sameOf}
 use Rattle.entries.specs.Ranges.{between}
 use Rattle.entries.specs.Refusals.{refusalNumber, refuseIf, decidedOf}
@@ -29,9 +31,9 @@ use Rattle.changes.specs.declared.Decision.the-variants.{Refused, Accepted}
 use Rattle.rules.specs.declared.accounts.Account.{Account}
 use Rattle.book.specs.Chain as chains
 use Rattle.book.specs.Refusals.{entryRows, checkEntryOf, searchedOf, decisionBy}
-use Rattle.history.specs.History.{History, accounts, entries, naming, suits, lastSerial, absent, Fate, fate, targetEntry, targetFate, Balance, Rule, firstBroken, refusals, toArrears, refundsPaid}
+use Rattle.history.specs.History.{History, accounts, entries, namingGuarantee, naming, suits, lastSerial, absent, Fate, fate, guaranteeOpen, targetEntry, targetFate, Balance, Rule, firstBroken, refusals, toArrears, refundsPaid}
 use Rattle.history.specs.Agreement.{keptAccount, keptData, keptEntry}
-use Rattle.history.proofs.Accept.{or-left, or-right, unsuited}
+use Rattle.history.proofs.Accept.{unsuited}
 use Rattle.entries.proofs.KindsLaws.{same-kind, no-kind}
 
 abbrev Pick : Bool → Type 0 → Type 0 → Type 0
@@ -74,19 +76,25 @@ first-same (x ∷ xs) (y ∷ ys) s =
 -- TESTS THAT ARE SAID UNLIKE
 misnames-same : (k l : Kind) → misnamesOf k l ≡ not (suits k l)
 unfolding misnamesOf
-misnames-same k l = go (sameOf k kind.Correction)
+misnames-same k l = go (sameOf k kind.Correction) (namingGuarantee k)
   where
-    go : (t : Bool) → cond t (not (sameOf l kind.Bill || sameOf l kind.Payment)) (not (sameOf l kind.Contribution)) ≡
-        not (cond t (sameOf l kind.Bill || sameOf l kind.Payment) (sameOf l kind.Contribution))
-    go true = refl
-    go false = refl
+    go : (t u : Bool) →
+        cond t (not (sameOf l kind.Bill || sameOf l kind.Payment)) (cond u (not (sameOf l kind.Guarantee)) (not (sameOf l kind.Contribution))) ≡
+        not (cond t (sameOf l kind.Bill || sameOf l kind.Payment) (cond u (sameOf l kind.Guarantee) (sameOf l kind.Contribution)))
+    go true u = refl
+    go false true = refl
+    go false false = refl
 
--- a kind that names an entry is none that doesn't
-naming-not : (k l : Kind) → naming l ≡ false → naming k ≡ true → sameOf k l ≡ false
-naming-not k l n e = go (sameOf k l) refl
+-- a kind that names an entry is none that doesn't, nor the reverse
+naming-not : (k l : Kind) (t : Bool) → naming l ≡ not t → naming k ≡ t → sameOf k l ≡ false
+naming-not k l t n e = go (sameOf k l) refl
   where
-    go : (t : Bool) → sameOf k l ≡ t → t ≡ false
-    go true p = absurd (true≢false (sym e ∙ ap naming (same-kind k l p) ∙ n))
+    clash : (t : Bool) → t ≡ not t → ⊥
+    clash true q = true≢false q
+    clash false q = true≢false (sym q)
+
+    go : (u : Bool) → sameOf k l ≡ u → u ≡ false
+    go true p = absurd (clash t (sym e ∙ ap naming (same-kind k l p) ∙ n))
     go false p = refl
 
 -- a return's first day is the deposit's, and else that of no entry
@@ -94,21 +102,23 @@ own-day : (t : Bool) (x deposited : ℕ) → (t && ltb x deposited) ≡ ltb x (c
 own-day true x deposited = refl
 own-day false x deposited = sym (le-ltb x 0 (omega arith))
 
-added-same : (k l : Kind) (p q : Bool) → (l ≡ kind.Contribution → p ≡ q) → (naming k && not (suits k l)) ≡ false →
-    (sameOf k kind.AddedCustomer && p) ≡ (sameOf k kind.AddedCustomer && q)
-added-same k l p q e s = go (sameOf k kind.AddedCustomer) refl
+-- a rule of kind m, which names entries of kind n alone, is the same where it reads the same of these
+suited-same : (m n : Kind) → ((l : Kind) → suits m l ≡ sameOf l n) → naming m ≡ true → (k l : Kind) (p q : Bool) → (l ≡ n → p ≡ q) →
+    (naming k && not (suits k l)) ≡ false → (sameOf k m && p) ≡ (sameOf k m && q)
+suited-same m n only names k l p q e s = go (sameOf k m) refl
   where
-    suited : k ≡ kind.AddedCustomer → not (sameOf l kind.Contribution) ≡ false
-    suited a = rw a at s
+    suited : k ≡ m → sameOf l n ≡ true
+    suited a = not-false _ (rw (a, names, only l) at s)
 
-    go : (t : Bool) → sameOf k kind.AddedCustomer ≡ t → (t && p) ≡ (t && q)
-    go true a = e (same-kind l kind.Contribution (not-false _ (suited (same-kind k kind.AddedCustomer a))))
+    go : (t : Bool) → sameOf k m ≡ t → (t && p) ≡ (t && q)
+    go true a = e (same-kind l n (suited (same-kind k m a)))
     go false a = refl
 
 -- what the rules read of an entry of a kind, as the history has it
 abbrev pub seenOf : Kind → Raw → Fate → Particulars
 seenOf l e f =
     let contribution = sameOf l kind.Contribution in
+    let guarantee = sameOf l kind.Guarantee in
     let correctable = sameOf l kind.Bill || sameOf l kind.Payment in
     record {
       kind = l;
@@ -117,9 +127,11 @@ seenOf l e f =
       phases = cond contribution (e .b) 0;
       held = cents (cond contribution (f .held) 0);
       added = cond contribution (f .added) 0;
-      closed = contribution && f .closed;
+      closed = (contribution || guarantee) && f .closed;
       standing = cents (cond correctable (f .standing) 0);
       corrected = correctable && f .corrected;
+      «guarantee_held» = cents (cond guarantee (f .held) 0);
+      reduced = day (cond guarantee (f .reduced) 0);
     }
 
 -- what is read of an entry that the book keeps: by the rules, and of a contribution
@@ -138,6 +150,9 @@ kept-read kind.Deposit e f s p = (refl, λ A g x. refl)
 kept-read kind.DepositReturn e f s p = (refl, λ A g x. refl)
 kept-read kind.Expiry e f s p = (refl, λ A g x. refl)
 kept-read kind.Correction e f s p = (refl, λ A g x. refl)
+kept-read kind.Guarantee e f s p = (refl, λ A g x. refl)
+kept-read kind.Reduction e f s p = (refl, λ A g x. refl)
+kept-read kind.Retention e f s p = (refl, λ A g x. refl)
 
 -- what is left of the table after 1 to 7, for the entry that r names or none, and what an entry does that passes it
 abbrev pub rows : Raw → Kind → Account → Bool → chains.Sought → List checks.Row
@@ -145,10 +160,10 @@ rows r k acc false s = ownRows r k acc
 rows r k acc true chains.missing = record { broken = true; refusal = no.NotOnChain } ∷ []
 rows r k acc true (chains.found i e) = namingRows r k e
 
-abbrev pub effect : Raw → Kind → Account → Bool → chains.Sought → Decision
-effect r k acc false s = Accepted (ownChangeOf r k acc)
-effect r k acc true chains.missing = Refused no.NotOnChain
-effect r k acc true (chains.found i e) = Accepted (namingChangeOf r k acc i (e .«data»))
+abbrev pub effect : Raw → Kind → Account → Cents → Bool → chains.Sought → Decision
+effect r k acc paid false s = Accepted (ownChangeOf r k acc)
+effect r k acc paid true chains.missing = Refused no.NotOnChain
+effect r k acc paid true (chains.found i e) = Accepted (namingChangeOf r k acc paid i (e .«data»))
 
 -- the parted checks are one table
 parted : (c : Check) (xs ys : List checks.Row) (o : Decision) →
@@ -158,16 +173,16 @@ parted check.Passed [] ys o = refl
 parted (check.Refused n) [] ys o = rw (refused-first n ys) refl
 parted c (x ∷ xs) ys o = parted (refuseIf c (x .broken) (x .refusal)) xs ys o
 
-pub one-table : (r : Raw) (count last : ℕ) (acc : Account) (s : chains.Sought) → let k = kindOf (r .kind) in
-    decisionBy r count last acc s ≡ decidedOf (checks.checkRows check.Passed (entryRows r k count last ++ rows r k acc (namesOf k) s)) Refused (effect r k acc (namesOf k) s)
+pub one-table : (r : Raw) (count last : ℕ) (acc : Account) (s : chains.Sought) (paid : Cents) → let k = kindOf (r .kind) in
+    decisionBy r count last acc s paid ≡ decidedOf (checks.checkRows check.Passed (entryRows r k count last ++ rows r k acc (namesOf k) s)) Refused (effect r k acc paid (namesOf k) s)
 unfolding decisionBy checkEntryOf searchedOf ownDecisionOf namingDecisionOf checkOwnOf checkNamingOf refuseIf decidedOf
-one-table r count last acc s = rw (go (namesOf k) s) (parted check.Passed (entryRows r k count last) (rows r k acc (namesOf k) s) (effect r k acc (namesOf k) s))
+one-table r count last acc s paid = rw (go (namesOf k) s) (parted check.Passed (entryRows r k count last) (rows r k acc (namesOf k) s) (effect r k acc paid (namesOf k) s))
   where
     k : Kind
     k = kindOf (r .kind)
 
     go : (t : Bool) (s : chains.Sought) →
-        cond t (searchedOf r k acc s) (ownDecisionOf r k acc) ≡ decidedOf (checks.checkRows check.Passed (rows r k acc t s)) Refused (effect r k acc t s)
+        cond t (searchedOf r k acc paid s) (ownDecisionOf r k acc) ≡ decidedOf (checks.checkRows check.Passed (rows r k acc t s)) Refused (effect r k acc paid t s)
     go false s = refl
     go true chains.missing = refl
     go true (chains.found i e) = refl
@@ -179,18 +194,32 @@ rowsFrom n (x ∷ xs) = cond (eqb (x .number) n) (x ∷ xs) (rowsFrom n xs)
 
 module _ (h : History) (r : Raw) (k : Kind) (b : Balance) where
   -- of an entry that names nothing
-  pub own-same : (newest : ℕ) → naming k ≡ false → Same (rows r k (keptAccount b newest) false chains.missing) (rowsFrom 8 (refusals h r k (targetEntry absent) (targetFate h absent) b))
+  pub own-same : (newest : ℕ) → naming k ≡ false →
+      Same (rows r k (keptAccount b (guaranteeOpen h (r .account)) newest) false chains.missing) (rowsFrom 8 (refusals h r k (targetEntry absent) (targetFate h absent) b))
   own-same newest n =
-      let later = sameOf k kind.Expiry || sameOf k kind.Correction in
-      let no-added = or-left (sameOf k kind.AddedCustomer) later n in
-      let no-expiry = or-left (sameOf k kind.Expiry) (sameOf k kind.Correction) (or-right (sameOf k kind.AddedCustomer) later n) in (
+      let none : (l : Kind) → naming l ≡ true → sameOf k l ≡ false = λ l m. naming-not k l false m n in
+      let no-added = none kind.AddedCustomer refl in (
         rw n refl,
         (
           refl,
           λ t. (
-            own-day (sameOf k kind.DepositReturn) (r .day) (b .deposited),
-            λ t.
-                (rw no-kind refl, (rw no-added refl, (rw no-expiry refl, (rw no-added refl, (rw no-added refl, (rw no-kind refl, tt)))))),
+            refl,
+            λ t. (
+              own-day (sameOf k kind.DepositReturn) (r .day) (b .deposited),
+              λ t. (
+                rw no-kind refl,
+                (
+                  rw no-added refl,
+                  (
+                    rw (none kind.Expiry refl) refl,
+                    (
+                      rw (none kind.Reduction refl) refl,
+                      (rw (none kind.Retention refl) refl, (rw no-added refl, (rw no-added refl, (rw no-kind refl, tt)))),
+                    ),
+                  ),
+                ),
+              ),
+            ),
           ),
         ),
       )
@@ -207,31 +236,41 @@ module _ (h : History) (r : Raw) (k : Kind) (b : Balance) where
   unfolding entryOf
   naming-same acc i g x n =
       let l = kindOf (x .kind) in
-      let returned = naming-not k kind.DepositReturn refl n in
+      let returned = naming-not k kind.DepositReturn true refl n in
       rw (kept-read l x (fate h x) (toArrears h x) (refundsPaid h x) .0) (
         rw n (misnames-same k l),
-        λ suited. (
-          rw (naming-not k kind.Deposit refl n, returned) refl,
-          (
-            rw returned refl,
-            λ t. (
-              refl,
-              λ t. (
-                refl,
-                λ t. (
-                  refl,
+        λ suited.
+            let added = suited-same kind.AddedCustomer kind.Contribution (λ l. refl) refl k l in (
+              rw (naming-not k kind.Deposit true refl n, returned) refl,
+              (
+                rw (naming-not k kind.Guarantee true refl n) refl,
+                (
+                  rw returned refl,
                   λ t. (
-                    added-same k l _ _ (λ l. rw l) suited,
+                    refl,
                     λ t. (
-                      added-same k l _ _ (λ l. rw l) suited,
-                      λ t. (refl, λ t. tt),
+                      refl,
+                      λ t. (
+                        refl,
+                        λ t. (
+                          suited-same kind.Reduction kind.Guarantee (λ l. refl) refl k l _ _ (λ l. rw l) suited,
+                          λ t. (
+                            refl,
+                            λ t. (
+                              added _ _ (λ l. rw l) suited,
+                              λ t. (
+                                added _ _ (λ l. rw l) suited,
+                                λ t. (refl, λ t. tt),
+                              ),
+                            ),
+                          ),
+                        ),
+                      ),
                     ),
                   ),
                 ),
               ),
             ),
-          ),
-        ),
       )
 
 -- the two tables as a whole

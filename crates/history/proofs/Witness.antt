@@ -1,12 +1,12 @@
--- Document 01's figures as one list of calls, by computation.
+-- The documents' figures as one list of calls, by computation.
 use mathlib.Core.Path.{refl}
 use Rattle.entries.specs.Kinds.{kindOf}
 use Rattle.entries.specs.Ranges.{limitsOf, between, namedFits, bFits, inRangeOf}
-use Rattle.history.specs.History.{lastSerial, points, names, find, named, fate, moveBy, balance, amounts, judge, offer, repliedOf, filter, total, addedUp}
+use Rattle.history.specs.History.{lastSerial, points, names, find, named, filter, sum, fate, moveBy, balance, amounts, judge, offer, repliedOf, addedUp}
 use Rattle.history.specs.Queries.{statementIn, contributionIn, queryIn}
 use Rattle.history.specs.Calls.{callIn}
 use Rattle.history.specs.Witness.{Witness}
 
 pub witnessed : Witness
-unfolding kindOf limitsOf between namedFits bFits inRangeOf lastSerial points names find named fate moveBy balance amounts judge offer repliedOf filter total addedUp statementIn contributionIn queryIn callIn
+unfolding kindOf limitsOf between namedFits bFits inRangeOf lastSerial points names find named filter sum fate moveBy balance amounts judge offer repliedOf addedUp statementIn contributionIn queryIn callIn
 witnessed = record { answered = refl; accounts = refl }

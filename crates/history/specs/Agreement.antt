@@ -1,7 +1,7 @@
 -- A book and a history that agree, and that they agree after every entry offered.
 use Prim.Native.Nat.{ℕ, _≤_}
 use mathlib.Core.Path.{_≡_}
-use mathlib.Core.Bool.{cond}
+use mathlib.Core.Bool.{Bool, cond}
 use mathlib.Core.List.{List, [], _∷_}
 use lib.ListN.{length, getD}
 use lib.Dec.{eqb}
@@ -22,13 +22,17 @@ use Rattle.book.specs.Chain.{Link}
 use Rattle.book.specs.Posting.{accountAt, postOf}
 use Rattle.book.specs.declared.Book.{Book}
 use Rattle.queries.specs.Chain.{walkAt}
-use Rattle.history.specs.History.{History, lastSerial, Fate, fate, Balance, balance, accounts, entries, toArrears, refundsPaid, offer, repliedOf}
+use Rattle.history.specs.History.{History, lastSerial, Fate, fate, guaranteeOpen, Balance, balance, accounts, entries, toArrears, refundsPaid, offer, repliedOf}
 use Rattle.history.specs.Laws.{Valid}
 use Rattle.history.specs.Images.{newestOf}
 
--- an account's amounts as the book keeps them
-abbrev pub keptAccount : Balance → ℕ → Account
-keptAccount b newest = accountOf (cents (b .arrears)) (cents (b .credit)) (cents (b .deposit)) (b .rate) (day (b .deposited)) newest
+-- an account as the book keeps it: its amounts, and whether a guarantee is open
+abbrev pub keptAccount : Balance → Bool → ℕ → Account
+keptAccount b guarantee newest =
+    accountOf (cents (b .arrears)) (cents (b .credit)) (cents (b .deposit)) (b .rate) (day (b .deposited)) guarantee newest
+
+abbrev pub accountIn : History → ℕ → Account
+accountIn h a = keptAccount (balance h a) (guaranteeOpen h a) (newestOf h a)
 
 -- what the book keeps of an entry of a kind: what was posted, and what became of it
 abbrev pub keptData : Kind → Raw → Fate → ℕ → ℕ → Data
@@ -42,6 +46,9 @@ keptData kind.Deposit e f settled paidOut = data′.Deposit (cents (e .amount)) 
 keptData kind.DepositReturn e f settled paidOut = data′.DepositReturn
 keptData kind.Expiry e f settled paidOut = data′.Expiry (e .«named_node») (e .«named_serial»)
 keptData kind.Correction e f settled paidOut = data′.Correction (e .«named_node») (e .«named_serial») (cents (e .amount))
+keptData kind.Guarantee e f settled paidOut = data′.Guarantee (f .closed) (day (f .reduced)) (cents (e .amount)) (cents (f .held))
+keptData kind.Reduction e f settled paidOut = data′.Reduction (e .«named_node») (e .«named_serial»)
+keptData kind.Retention e f settled paidOut = data′.Retention (e .«named_node») (e .«named_serial»)
 
 abbrev pub dataIn : History → Raw → Data
 dataIn all e = keptData (kindOf (e .kind)) e (fate all e) (toArrears all e) (refundsPaid all e)
@@ -59,14 +66,14 @@ pub data Placed (all : History) (es : List Entry) : History → Type 0 where
   start : Placed all es []
   more : {e : Raw} {h : History} → getD es (length h) noEntry ≡ keptEntry all h e → Placed all es h → Placed all es (e ∷ h)
 
--- The book keeps the history's arrears, credit, deposits, last serials and entries, each number as it is.
+-- The book keeps the history's arrears, credit, deposits, open guarantees, last serials and entries, each number as it is.
 pub record Agrees (b : Book) (h : History) : Type 0 where
   pub accounts-long : length (b .accounts) ≡ accounts
   pub entries-long : length (b .entries) ≡ entries
   pub counted : b .count ≡ length h
   pub last-1 : b .last .«node_1» ≡ lastSerial h 1
   pub last-2 : b .last .«node_2» ≡ lastSerial h 2
-  pub account : (a : ℕ) → 1 ≤ a → a ≤ accounts → accountAt b a ≡ keptAccount (balance h a) (newestOf h a)
+  pub account : (a : ℕ) → 1 ≤ a → a ≤ accounts → accountAt b a ≡ accountIn h a
   pub rows : Placed h (b .entries) h
   -- places past the count are unused
   pub unused : (i : ℕ) → length h ≤ i → getD (b .entries) i noEntry ≡ noEntry

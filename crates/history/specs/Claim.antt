@@ -2,6 +2,9 @@
 use Prim.Native.Nat.{ℕ, _≤_}
 use mathlib.Core.Path.{_≡_}
 use mathlib.Core.List.{List}
+use Rattle.entries.specs.Data.{particularsOf}
+use Rattle.entries.specs.declared.kinds.Kind.the-variants as kind
+use Rattle.entries.specs.declared.data.Entry.{Entry}
 use Rattle.book.specs.Fresh.{freshBook}
 use Rattle.book.specs.Posting.{accountAt, postOf}
 use Rattle.book.specs.declared.Book.{Book}
@@ -10,7 +13,7 @@ use Rattle.queries.specs.Chain as chains
 use Rattle.queries.specs.Statements.{statementOf}
 use Rattle.queries.specs.Contributions.{contributionQueryOf}
 use Rattle.saves.specs.Saves.{saveOf, savedIn}
-use Rattle.history.specs.History.{accounts, after, answersAlong, balance, entriesOf, total, heldAmount}
+use Rattle.history.specs.History.{accounts, after, answersAlong, balance, entriesOf, total, heldOf, heldAmount}
 use Rattle.history.specs.Laws.{Lawful, Bounded}
 use Rattle.history.specs.Agreement.{Kept}
 use Rattle.carry.specs.Carry.{carryRefusalOf, carryBookOf, carryResultsOf}
@@ -39,6 +42,10 @@ bookOf cs = bookAfter freshBook cs
 abbrev pub answersOf : List Call → List CallAnswer
 answersOf cs = answersAlong callOf freshBook cs
 
+-- what is held of a guarantee, and 0 of every other entry
+unfoldable pub guaranteeHeldOf : Entry → ℕ
+guaranteeHeldOf e = particularsOf (e .«data») .«guarantee_held» .0
+
 pub record Claim (cs : List Call) : Type 0 where
   -- Every answer in the list is the history's at that point: an offered entry's refusal number is 0 exactly when it joins; which
   -- calls are refused, which statements are complete and an accepted posting's four amounts; and what every accepted statement,
@@ -52,9 +59,12 @@ pub record Claim (cs : List Call) : Type 0 where
   pub deposit : (a : ℕ) → 1 ≤ a → a ≤ accounts → accountAt (bookOf cs) a .deposit .0 ≡ balance (historyOf cs) a .deposit
   -- and what is held of the account's contributions
   pub held : (a : ℕ) → 1 ≤ a → a ≤ accounts → totalOf chains.heldOf (chainAt (bookOf cs) a) ≡ total heldAmount (historyOf cs) (entriesOf (historyOf cs) a)
+  -- and of its guarantees
+  pub guarantee-held : (a : ℕ) → 1 ≤ a → a ≤ accounts →
+      totalOf guaranteeHeldOf (chainAt (bookOf cs) a) ≡ total (heldOf kind.Guarantee) (historyOf cs) (entriesOf (historyOf cs) a)
   -- it keeps the history's entries, chains and last serials too
   pub kept : Kept (bookOf cs) (historyOf cs)
-  -- the claims of the history: sums, contributions, refunds with their days, corrections
+  -- the claims of the history: sums, contributions, refunds with their days, guarantees, corrections
   pub lawful : Lawful (historyOf cs)
   -- bounds within which no sum saturates
   pub bounded : Bounded (historyOf cs)

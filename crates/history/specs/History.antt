@@ -10,7 +10,7 @@ use Rattle.entries.specs.Ranges.{between, inRangeOf}
 use Rattle.entries.specs.declared.raw.Raw.{Raw}
 use Rattle.entries.specs.declared.kinds.Kind.{Kind}
 use Rattle.entries.specs.declared.kinds.Kind.the-variants as kind
-use Rattle.rules.specs.Formulas.{billed, refund, interest}
+use Rattle.rules.specs.Formulas.{billed, refund, interest, givenBack}
 use Rattle.rules.specs.Moves.{settles, leaves, covers, owes}
 use Rattle.rules.specs.Answers.{postingReply}
 use Rattle.rules.specs.declared.answers.PostingReply.{PostingReply}
@@ -34,6 +34,18 @@ refundPeriod = 1826
 abbrev pub periodEnd : Raw → ℕ
 periodEnd e = e .day + refundPeriod
 
+-- the days whose payments a reduction counts, its own the last of them
+abbrev pub windowDays : ℕ
+windowDays = 365
+
+-- the days from a guarantee, or from a reduction of it, to its next reduction
+abbrev pub reductionInterval : ℕ
+reductionInterval = 365
+
+-- the days from a guarantee on after which its rest may be retained
+abbrev pub guaranteePeriod : ℕ
+guaranteePeriod = 1826
+
 -- the list, newest first: document 01's end of the list is the head here
 abbrev pub History : Type 0
 History = List Raw
@@ -43,13 +55,18 @@ unfoldable pub lastSerial : History → ℕ → ℕ
 lastSerial [] node = 0
 lastSerial (r ∷ h) node = cond (eqb (r .node) node) (r .serial) (lastSerial h node)
 
--- the kinds that name an entry
-abbrev pub naming : Kind → Bool
-naming k = sameOf k kind.AddedCustomer || (sameOf k kind.Expiry || sameOf k kind.Correction)
+-- the kinds that name a guarantee, and all that name an entry
+abbrev pub namingGuarantee : Kind → Bool
+namingGuarantee k = sameOf k kind.Reduction || sameOf k kind.Retention
 
--- an added customer and an expiry name a contribution, a correction a bill or a payment
+abbrev pub naming : Kind → Bool
+naming k = namingGuarantee k || (sameOf k kind.AddedCustomer || (sameOf k kind.Expiry || sameOf k kind.Correction))
+
+-- a correction names a bill or a payment, a reduction and a retention a guarantee, an added customer and an expiry a contribution
 abbrev pub suits : Kind → Kind → Bool
-suits k l = cond (sameOf k kind.Correction) (sameOf l kind.Bill || sameOf l kind.Payment) (sameOf l kind.Contribution)
+suits k l =
+    cond (sameOf k kind.Correction) (sameOf l kind.Bill || sameOf l kind.Payment)
+    (cond (namingGuarantee k) (sameOf l kind.Guarantee) (sameOf l kind.Contribution))
 
 -- e is of c's account, and carries the named node and named serial as its node and serial
 unfoldable pub points : Raw → Raw → Bool
@@ -72,7 +89,18 @@ find (e ∷ h) c = cond (points c e) (present (length h) e) (find h c)
 unfoldable pub named : History → Raw → Target
 named h c = cond (naming (kindOf (c .kind))) (find h c) absent
 
--- What became of an entry.
+-- the entries of a list that pass a test, and an account's entries, newest first
+unfoldable pub filter : (Raw → Bool) → History → History
+filter test [] = []
+filter test (r ∷ h) = cond (test r) (r ∷ filter test h) (filter test h)
+
+abbrev pub onAccount : ℕ → Raw → Bool
+onAccount account r = eqb (r .account) account
+
+abbrev pub entriesOf : History → ℕ → History
+entriesOf h account = filter (onAccount account) h
+
+-- What became of an entry. `reduced` is the day of the last reduction, the entry's own before the first.
 pub record Fate : Type 0 where
   pub held : ℕ
   pub retained : ℕ
@@ -80,31 +108,73 @@ pub record Fate : Type 0 where
   pub closed : Bool
   pub standing : ℕ
   pub corrected : Bool
+  pub reduced : ℕ
 
-abbrev pub fateOf : ℕ → ℕ → ℕ → Bool → ℕ → Bool → Fate
-fateOf held retained added closed standing corrected =
-    record { held = held; retained = retained; added = added; closed = closed; standing = standing; corrected = corrected }
+abbrev pub fateOf : ℕ → ℕ → ℕ → Bool → ℕ → Bool → ℕ → Fate
+fateOf held retained added closed standing corrected reduced =
+    record { held = held; retained = retained; added = added; closed = closed; standing = standing; corrected = corrected; reduced = reduced }
 
--- 1: held = amount; the standing amount is first the billed amount of a bill, or the amount of a payment
+-- 1 and 9: held = amount; the standing amount is first the billed amount of a bill, or the amount of a payment
 abbrev pub postedFate : Raw → Fate
-postedFate e = fateOf (e .amount) 0 0 false (cond (sameOf (kindOf (e .kind)) kind.Bill) (billed (e .amount) (e .b) (e .a)) (e .amount)) false
+postedFate e = fateOf (e .amount) 0 0 false (cond (sameOf (kindOf (e .kind)) kind.Bill) (billed (e .amount) (e .b) (e .a)) (e .amount)) false (e .day)
 
 -- the refund that an added customer c brings to a contribution e
 abbrev pub refundBy : Raw → Raw → Fate → ℕ
 refundBy c e f = refund (f .held) (e .amount) (c .a) (e .a) (f .added)
 
--- What c, of a kind, makes of the entry e that it names. 2: held falls by the refund. 7: retained = held; held = 0; the
--- contribution is closed. 8: the standing amount becomes the new one.
-abbrev pub fateAfter : Kind → Raw → Raw → Fate → Fate
-fateAfter k c e f =
-    cond (sameOf k kind.AddedCustomer) (fateOf (f .held - refundBy c e f) (f .retained) (f .added + 1) (f .closed) (f .standing) (f .corrected))
-    (cond (sameOf k kind.Expiry) (fateOf 0 (f .held) (f .added) true (f .standing) (f .corrected))
-    (cond (sameOf k kind.Correction) (fateOf (f .held) (f .retained) (f .added) (f .closed) (c .amount) true)
-    f))
+-- What c, of a kind, makes of the entry e that it names; `paid` is the sum of the payments that a reduction counts. 2: held falls by
+-- the refund. 7 and 11: retained = held; held = 0; the contribution or guarantee is closed. 8: the standing amount becomes the new
+-- one. 10: held falls by the reduction, and its day is kept.
+abbrev pub fateAfter : Kind → Raw → Raw → ℕ → Fate → Fate
+fateAfter k c e paid f =
+    cond (sameOf k kind.AddedCustomer)
+    (fateOf (f .held - refundBy c e f) (f .retained) (f .added + 1) (f .closed) (f .standing) (f .corrected) (f .reduced))
+    (cond (sameOf k kind.Expiry || sameOf k kind.Retention)
+    (fateOf 0 (f .held) (f .added) true (f .standing) (f .corrected) (f .reduced))
+    (cond (sameOf k kind.Correction)
+    (fateOf (f .held) (f .retained) (f .added) (f .closed) (c .amount) true (f .reduced))
+    (cond (sameOf k kind.Reduction)
+    (fateOf (f .held - givenBack (f .held) paid) (f .retained) (f .added) (f .closed) (f .standing) (f .corrected) (c .day))
+    f)))
+
+-- what is read off an entry, of its kind, and its fate
+abbrev pub Reading : Type 0
+Reading = Kind → Raw → Fate → ℕ
+
+-- a sum over entries, of what is read off each and what became of it
+unfoldable pub sum : Reading → (Raw → Fate) → History → ℕ
+sum f fates [] = 0
+sum f fates (r ∷ es) = f (kindOf (r .kind)) r (fates r) + sum f fates es
+
+-- a payment dated in the 365 days that end on a day, as it stands
+abbrev pub inWindow : ℕ → Kind → Raw → Bool
+inWindow day k p = sameOf k kind.Payment && between (p .day) (day + 1 - windowDays) day
+
+abbrev pub paidUntil : ℕ → Reading
+paidUntil day k p f = cond (inWindow day k p) (f .standing) 0
 
 unfoldable pub fate : History → Raw → Fate
 fate [] e = postedFate e
-fate (c ∷ h) e = cond (names c e) (fateAfter (kindOf (c .kind)) c e (fate h e)) (fate h e)
+fate (c ∷ h) e =
+    cond (names c e) (fateAfter (kindOf (c .kind)) c e (sum (paidUntil (c .day)) (fate h) (entriesOf h (c .account))) (fate h e)) (fate h e)
+
+-- a sum over entries, each with its fate in the whole history, `all`
+abbrev pub total : Reading → History → History → ℕ
+total f all es = sum f (fate all) es
+
+-- the payments of its account that a reduction c counts, as they stand at its posting
+abbrev pub paidBy : History → Raw → ℕ
+paidBy h c = total (paidUntil (c .day)) h (entriesOf h (c .account))
+
+-- a guarantee is open until its retention; how many of an account's are open, and whether one is
+abbrev pub unclosed : Reading
+unclosed k e f = cond (sameOf k kind.Guarantee && not (f .closed)) 1 0
+
+abbrev pub openGuarantees : History → ℕ → ℕ
+openGuarantees h account = total unclosed h (entriesOf h account)
+
+abbrev pub guaranteeOpen : History → ℕ → Bool
+guaranteeOpen h account = ltb 0 (openGuarantees h account)
 
 -- an entry of which only the account and what it names are set
 abbrev pub pointerTo : ℕ → ℕ → ℕ → Raw
@@ -148,19 +218,23 @@ charges x = restates 0 x
 abbrev pub credits : ℕ → Move
 credits x = restates x 0
 
--- what an entry r, of kind k, does to an account; e, of kind l, and f are the entry that it names and its fate.
+-- what an entry r, of kind k, does to an account; e, of kind l, and f are the entry that it names and its fate, and `paid` is the sum
+-- of the payments that a reduction counts.
 -- A correction: a bill that grows, or a payment that shrinks, charges the difference; the others credit it.
-abbrev pub moveOf : Kind → Kind → Raw → Balance → Raw → Fate → Move
-moveOf kind.Unknown l r b e f = stays
-moveOf kind.Contribution l r b e f = stays
-moveOf kind.AddedCustomer l r b e f = refunds (refundBy r e f)
-moveOf kind.Bill l r b e f = charges (billed (r .amount) (r .b) (r .a))
-moveOf kind.Payment l r b e f = credits (r .amount)
-moveOf kind.Deposit l r b e f = deposits (r .amount) (r .a) (r .day)
-moveOf kind.DepositReturn l r b e f = returns (interest (b .deposit) (b .rate) (r .day - b .deposited))
-moveOf kind.Expiry l r b e f = retains (f .held)
-moveOf kind.Correction l r b e f =
+abbrev pub moveOf : Kind → Kind → Raw → Balance → Raw → ℕ → Fate → Move
+moveOf kind.Unknown l r b e paid f = stays
+moveOf kind.Contribution l r b e paid f = stays
+moveOf kind.AddedCustomer l r b e paid f = refunds (refundBy r e f)
+moveOf kind.Bill l r b e paid f = charges (billed (r .amount) (r .b) (r .a))
+moveOf kind.Payment l r b e paid f = credits (r .amount)
+moveOf kind.Deposit l r b e paid f = deposits (r .amount) (r .a) (r .day)
+moveOf kind.DepositReturn l r b e paid f = returns (interest (b .deposit) (b .rate) (r .day - b .deposited))
+moveOf kind.Expiry l r b e paid f = retains (f .held)
+moveOf kind.Correction l r b e paid f =
     let bill = sameOf l kind.Bill in restates (cond bill (f .standing) (r .amount)) (cond bill (r .amount) (f .standing))
+moveOf kind.Guarantee l r b e paid f = stays
+moveOf kind.Reduction l r b e paid f = refunds (givenBack (f .held) paid)
+moveOf kind.Retention l r b e paid f = retains (f .held)
 
 -- The account's amounts afterwards. `restates x y` charges y - x and credits x - y, what is left over going to credit; at least one of
 -- the two is 0, and moves nothing.
@@ -175,7 +249,7 @@ moved (returns i) b = balanceOf (b .arrears - settles (b .deposit + i) (b .arrea
 moved (retains x) b = b
 
 unfoldable pub moveBy : History → Raw → Balance → Move
-moveBy h r b = let e = targetEntry (named h r) in moveOf (kindOf (r .kind)) (kindOf (e .kind)) r b e (targetFate h (named h r))
+moveBy h r b = let e = targetEntry (named h r) in moveOf (kindOf (r .kind)) (kindOf (e .kind)) r b e (paidBy h r) (targetFate h (named h r))
 
 unfoldable pub balance : History → ℕ → Balance
 balance [] account = balanceOf 0 0 0 0 0
@@ -230,10 +304,13 @@ refusals h r k e f b =
     (leb entries (length h) ⇒ 7) ∷
     (naming k && not (suits k l) ⇒ 8) ∷
     (sameOf k kind.Deposit && ltb 0 (b .deposit) || sameOf k kind.DepositReturn && eqb (b .deposit) 0 ⇒ 9) ∷
+    (sameOf k kind.Guarantee && guaranteeOpen h (r .account) ⇒ 24) ∷
     (ltb (r .day) (cond (sameOf k kind.DepositReturn) (b .deposited) (e .day)) ⇒ 10) ∷
-    (sameOf l kind.Contribution && f .closed ⇒ 11) ∷
+    ((sameOf l kind.Contribution || sameOf l kind.Guarantee) && f .closed ⇒ 11) ∷
     (sameOf k kind.AddedCustomer && leb (periodEnd e) (r .day) ⇒ 12) ∷
     (sameOf k kind.Expiry && ltb (r .day) (periodEnd e) ⇒ 13) ∷
+    (sameOf k kind.Reduction && ltb (r .day) (f .reduced + reductionInterval) ⇒ 25) ∷
+    (sameOf k kind.Retention && ltb (r .day) (e .day + guaranteePeriod) ⇒ 26) ∷
     (sameOf k kind.AddedCustomer && (eqb (r .b) 1 && eqb (e .b) 3) ⇒ 14) ∷
     (sameOf k kind.AddedCustomer && ltb (e .a) (r .a) ⇒ 15) ∷
     ((sameOf l kind.Bill || sameOf l kind.Payment) && f .corrected ⇒ 16) ∷ []
@@ -287,52 +364,43 @@ carryOffers h rs results = cond (tooShort rs results) h (offers h rs)
 abbrev pub carryVerdicts : History → List Raw → List ℕ → List ℕ
 carryVerdicts h rs results = cond (tooShort rs results) results (verdicts h rs ++ drop (length rs) results)
 
--- the entries of a list that pass a test, and an account's entries, newest first
-unfoldable pub filter : (Raw → Bool) → History → History
-filter test [] = []
-filter test (r ∷ h) = cond (test r) (r ∷ filter test h) (filter test h)
-
-abbrev pub onAccount : ℕ → Raw → Bool
-onAccount account r = eqb (r .account) account
-
-abbrev pub entriesOf : History → ℕ → History
-entriesOf h account = filter (onAccount account) h
-
--- what is read off an entry, of its kind, and its fate
-abbrev pub Reading : Type 0
-Reading = Kind → Raw → Fate → ℕ
-
--- a sum over entries, of what is read off each and its fate in the whole history, `all`
-unfoldable pub total : Reading → History → History → ℕ
-total f all [] = 0
-total f all (r ∷ es) = f (kindOf (r .kind)) r (fate all r) + total f all es
-
--- contributions and deposits are summed by their amounts, bills and payments at their standing amounts, contributions by what is held
+-- contributions, deposits and guarantees are summed by their amounts, bills and payments at their standing amounts, contributions and
+-- guarantees by what is held
 abbrev pub amountOf : Kind → Reading
 amountOf l k e f = cond (sameOf k l) (e .amount) 0
 
 abbrev pub standingAmount : Kind → Reading
 standingAmount l k e f = cond (sameOf k l) (f .standing) 0
 
-abbrev pub heldAmount : Reading
-heldAmount k e f = cond (sameOf k kind.Contribution) (f .held) 0
+abbrev pub heldOf : Kind → Reading
+heldOf l k e f = cond (sameOf k l) (f .held) 0
 
--- interest, paid out, retained and refunds are added up posting by posting, over the entries that pass a test
+abbrev pub heldAmount : Reading
+heldAmount = heldOf kind.Contribution
+
+-- interest, paid out, retained, refunds and reductions are added up posting by posting, over the entries that pass a test
 unfoldable pub addedUp : (Amounts → ℕ) → (Raw → Bool) → History → ℕ
 addedUp f test [] = 0
 addedUp f test (r ∷ h) = cond (test r) (f (amounts h r)) 0 + addedUp f test h
 
--- the added customers of a contribution e are those that point at it
-abbrev pub customerOf : Raw → Raw → Bool
-customerOf e c = sameOf (kindOf (c .kind)) kind.AddedCustomer && points c e
+-- what gives something of an entry e back: the entries of a kind that point at it, added customers at a contribution, reductions at a
+-- guarantee
+abbrev pub givesBack : Kind → Raw → Raw → Bool
+givesBack k e c = sameOf (kindOf (c .kind)) k && points c e
 
--- what they settle are its refunds to arrears, what they leave over its refunds paid out
+-- what they settle, and what they leave over
+abbrev pub settledBy : Kind → History → Raw → ℕ
+settledBy k h e = addedUp (λ (x : Amounts). x .settled) (givesBack k e) h
+
+abbrev pub paidOutBy : Kind → History → Raw → ℕ
+paidOutBy k h e = addedUp (λ (x : Amounts). x .paidOut) (givesBack k e) h
+
+-- a contribution's refunds to arrears and paid out are its added customers', which are counted
 abbrev pub toArrears : History → Raw → ℕ
-toArrears h e = addedUp (λ (x : Amounts). x .settled) (customerOf e) h
+toArrears h e = settledBy kind.AddedCustomer h e
 
 abbrev pub refundsPaid : History → Raw → ℕ
-refundsPaid h e = addedUp (λ (x : Amounts). x .paidOut) (customerOf e) h
+refundsPaid h e = paidOutBy kind.AddedCustomer h e
 
--- they are counted
 abbrev pub customers : History → Raw → ℕ
-customers h e = addedUp (λ (x : Amounts). 1) (customerOf e) h
+customers h e = addedUp (λ (x : Amounts). 1) (givesBack kind.AddedCustomer e) h

@@ -6,8 +6,9 @@ use mathlib.Core.List.{List, [], _∷_}
 use lib.ListN.{length}
 use Rattle.entries.specs.Kinds.{kindOf}
 use Rattle.entries.specs.declared.raw.Raw.{Raw}
+use Rattle.entries.specs.declared.kinds.Kind.{Kind}
 use Rattle.entries.specs.declared.kinds.Kind.the-variants as kind
-use Rattle.history.specs.History.{History, Amounts, entries, periodEnd, points, fate, Balance, balance, amounts, judge, offers, onAccount, entriesOf, Reading, total, amountOf, standingAmount, heldAmount, addedUp, toArrears, refundsPaid, customers}
+use Rattle.history.specs.History.{History, Amounts, entries, periodEnd, points, fate, total, paidBy, openGuarantees, Balance, balance, amounts, judge, offers, onAccount, entriesOf, Reading, amountOf, standingAmount, heldOf, heldAmount, addedUp, settledBy, paidOutBy, customers}
 
 -- the histories that offers give: no refusal stopped any entry, read against those before it
 pub data Valid : History → Type 0 where
@@ -24,6 +25,7 @@ pub record AccountSums : Type 0 where
   pub contributions : ℕ
   pub payments : ℕ
   pub deposits : ℕ
+  pub guarantees : ℕ
   pub interest : ℕ
   pub arrears : ℕ
   pub bills : ℕ
@@ -31,6 +33,7 @@ pub record AccountSums : Type 0 where
   pub retained : ℕ
   pub held : ℕ
   pub deposit : ℕ
+  pub guaranteeHeld : ℕ
   pub credit : ℕ
 
 -- from a sum over entries of what is read off each, one posting by posting of an amount, and the balance
@@ -40,6 +43,7 @@ sumsBy sum added b =
       contributions = sum (amountOf kind.Contribution);
       payments = sum (standingAmount kind.Payment);
       deposits = sum (amountOf kind.Deposit);
+      guarantees = sum (amountOf kind.Guarantee);
       interest = added (λ x. x .interest);
       arrears = b .arrears;
       bills = sum (standingAmount kind.Bill);
@@ -47,22 +51,24 @@ sumsBy sum added b =
       retained = added (λ x. x .retained);
       held = sum heldAmount;
       deposit = b .deposit;
+      guaranteeHeld = sum (heldOf kind.Guarantee);
       credit = b .credit;
     }
 
 abbrev pub sumsOf : History → ℕ → AccountSums
 sumsOf h a = sumsBy (λ f. total f h (entriesOf h a)) (λ f. addedUp f (onAccount a) h) (balance h a)
 
--- Contributions, payments, deposits, interest and arrears together are bills, paid out, retained, contributions held, deposit held
--- and credit together.
+-- Contributions, payments, deposits, guarantees, interest and arrears together are bills, paid out, retained, contributions held,
+-- deposit held, guarantee held and credit together.
 abbrev pub Conserved : AccountSums → Type 0
 Conserved s =
-    s .contributions + s .payments + s .deposits + s .interest + s .arrears
-    ≡ s .bills + s .paidOut + s .retained + s .held + s .deposit + s .credit
+    s .contributions + s .payments + s .deposits + s .guarantees + s .interest + s .arrears
+    ≡ s .bills + s .paidOut + s .retained + s .held + s .deposit + s .guaranteeHeld + s .credit
 
--- A contribution is refunds to arrears, refunds paid out, what is held and what is retained together.
-abbrev pub Divided : History → Raw → Type 0
-Divided h e = e .amount ≡ toArrears h e + refundsPaid h e + fate h e .held + fate h e .retained
+-- A contribution or guarantee is what was given back of it to arrears and paid out, what is held and what is retained together; k is
+-- the kind that gives back.
+abbrev pub Divided : Kind → History → Raw → Type 0
+Divided k h e = e .amount ≡ settledBy k h e + paidOutBy k h e + fate h e .held + fate h e .retained
 
 -- An added customer c, after h: its refund, settled and paid out, is the smaller of held and
 -- floor(contribution × metres shared / (metres built × k)), k = 2 plus the added customers of the contribution before.
@@ -70,6 +76,13 @@ abbrev pub Refunds : Raw → History → Type 0
 Refunds c h =
     (e : Raw) → In e h → kindOf (c .kind) ≡ kind.AddedCustomer → points c e ≡ true →
     amounts h c .settled + amounts h c .paidOut ≡ min (fate h e .held) (e .amount * c .a / (e .a * (customers h e + 2)))
+
+-- A reduction c, after h: what it gives back, settled and paid out, is the smaller of held and a tenth, rounded down, of the payments
+-- that it counts.
+abbrev pub Reduces : Raw → History → Type 0
+Reduces c h =
+    (e : Raw) → In e h → kindOf (c .kind) ≡ kind.Reduction → points c e ≡ true →
+    amounts h c .settled + amounts h c .paidOut ≡ min (fate h e .held) (paidBy h c / 10)
 
 -- two corrections on one account that name the same entry
 pub record Again (c d : Raw) : Type 0 where
@@ -103,10 +116,15 @@ pub record Lawful (h : History) : Type 0 where
   -- each account's sums and amounts
   pub conserved : (a : ℕ) → Conserved (sumsOf h a)
   -- each contribution's refunds to arrears and paid out, what is held, and its expiry's retained
-  pub divided : (e : Raw) → In e h → kindOf (e .kind) ≡ kind.Contribution → Divided h e
+  pub divided : (e : Raw) → In e h → kindOf (e .kind) ≡ kind.Contribution → Divided kind.AddedCustomer h e
+  -- each guarantee's reductions to arrears and paid out, what is held, and its retention's retained
+  pub guaranteed : (e : Raw) → In e h → kindOf (e .kind) ≡ kind.Guarantee → Divided kind.Reduction h e
   -- each refund, and that k counts the added customers of a contribution, all of them
   pub refunds : Each Refunds h
   pub counted : (e : Raw) → In e h → kindOf (e .kind) ≡ kind.Contribution → fate h e .added ≡ customers h e
+  -- each reduction, and that at most one guarantee of an account is open
+  pub reductions : Each Reduces h
+  pub one-open : (a : ℕ) → openGuarantees h a ≤ 1
   -- refunds are the added customers, with their days: each has its contribution, and none is 1,826 days or more after it
   pub contributed : Each HasContribution h
   pub in-period : (c e : Raw) → In c h → In e h → kindOf (c .kind) ≡ kind.AddedCustomer → points c e ≡ true → c .day < periodEnd e
@@ -118,13 +136,15 @@ abbrev pub amountBound : ℕ
 amountBound = 1024000000000000
 
 -- The book's amounts, statements and queries equal plain sums (Claim, `kept` and `answered`), so no sum in a book so reached
--- saturates. Its limits are 1,024 entries, 2^64 - 1 cents and 65,535 customers added to an entry; these are the bounds.
+-- saturates. Its limits are 1,024 entries, 2^64 - 1 cents and 65,535 customers added to an entry; these are the bounds, that of the
+-- payments that a reduction c counts among them.
 pub record Bounded (h : History) : Type 0 where
   pub room : length h ≤ entries
   pub arrears : (a : ℕ) → balance h a .arrears ≤ amountBound
   pub credit : (a : ℕ) → balance h a .credit ≤ amountBound
   pub deposit : (a : ℕ) → balance h a .deposit ≤ amountBound
   pub added : (e : Raw) → fate h e .added ≤ entries
+  pub paid : (c : Raw) → paidBy h c ≤ amountBound
 
 -- proofs/Laws.antt shows them
 pub record Laws : Type 0 where

@@ -1,5 +1,6 @@
 pub mod History
 pub mod Laws
+pub mod Guarantees
 pub mod Images
 pub mod Agreement
 pub mod Queries

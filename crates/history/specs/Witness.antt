@@ -1,5 +1,5 @@
--- Document 01's figures P1 to P6, P9, P11 and P12 as one list of calls with their answers, worked out from document 01. It shows that
--- demand 3 speaks of them: each kind of entry joins, and no sum of it is always zero.
+-- Document 01's figures P1 to P6, P9, P11 and P12, and those of a guarantee, as one list of calls with their answers, worked out from
+-- the documents. It shows that demand 3 speaks of them: each kind of entry joins, and no sum of it is always zero.
 use Prim.Native.Nat.{ℕ, min}
 use mathlib.Core.Path.{_≡_}
 use mathlib.Core.Bool.{Bool, true, false}
@@ -104,6 +104,21 @@ witness =
     (posting (entry 4 1 6 100 21 700 0 0 0) gives accepted 22 0 0 0 0) ∷
     (posting (entry 5 1 6 100 22 500 0 0 0) gives accepted 23 0 0 0 0) ∷
     (statement 6 3 gives stated 0 700 500 1000 3 0 700 true) ∷
+    -- a guarantee of 20,000 on day 100, payments of 30,000 and 40,000, and a bill that leaves arrears 1,000
+    (posting (entry 9 1 7 100 23 20000 0 0 0) gives accepted 24 0 0 0 0) ∷
+    (posting (entry 4 1 7 101 24 30000 0 0 0) gives accepted 25 0 0 0 0) ∷
+    (posting (entry 4 1 7 465 25 40000 0 0 0) gives accepted 26 0 0 0 0) ∷
+    (posting (entry 3 1 7 465 26 71000 30 30 0) gives accepted 27 0 0 0 0) ∷
+    (posting (entry 9 1 7 465 27 700 0 0 0) gives refused 24) ∷
+    -- a tenth of the payments is given back after 365 days, to arrears first
+    (posting (entry 10 1 7 464 27 0 0 0 23) gives refused 25) ∷
+    (posting (entry 10 1 7 465 27 0 0 0 23) gives accepted 28 1000 6000 0 0) ∷
+    -- the rest is retained after 1,826 days; the next guarantee, of 700, stays held, and a statement's held is of contributions alone
+    (posting (entry 11 1 7 1925 28 0 0 0 23) gives refused 26) ∷
+    (posting (entry 11 1 7 1926 28 0 0 0 23) gives accepted 29 0 0 13000 0) ∷
+    (posting (entry 10 1 7 1926 29 0 0 0 23) gives refused 11) ∷
+    (posting (entry 9 1 7 1926 29 700 0 0 0) gives accepted 30 0 0 0 0) ∷
+    (statement 7 7 gives stated 0 0 0 0 7 71000 70000 true) ∷
     []
 
 abbrev pub calls : List Call
@@ -112,13 +127,15 @@ calls = map (λ (x : AnsweredCall). x .call) witness
 abbrev pub answers : List CallAnswer
 answers = map (λ (x : AnsweredCall). x .answer) witness
 
--- an account's sums after the list: contributions, payments, deposits, interest, arrears; bills, paid out, retained, held, deposit held, credit
-abbrev sums : ℕ → ℕ → ℕ → ℕ → ℕ → ℕ → ℕ → ℕ → ℕ → ℕ → ℕ → AccountSums
-sums contributions payments deposits interest arrears bills paidOut retained held deposit credit =
+-- an account's sums after the list: contributions, payments, deposits, guarantees, interest, arrears; bills, paid out, retained, held,
+-- deposit held, guarantee held, credit
+abbrev sums : ℕ → ℕ → ℕ → ℕ → ℕ → ℕ → ℕ → ℕ → ℕ → ℕ → ℕ → ℕ → ℕ → AccountSums
+sums contributions payments deposits guarantees interest arrears bills paidOut retained held deposit guaranteeHeld credit =
     record {
       contributions = contributions;
       payments = payments;
       deposits = deposits;
+      guarantees = guarantees;
       interest = interest;
       arrears = arrears;
       bills = bills;
@@ -126,20 +143,22 @@ sums contributions payments deposits interest arrears bills paidOut retained hel
       retained = retained;
       held = held;
       deposit = deposit;
+      guaranteeHeld = guaranteeHeld;
       credit = credit;
     }
 
 abbrev pub summed : List AccountSums
 summed =
-    sums 300000 0 0 0 0 80000 220000 0 0 0 0 ∷
-    sums 60000 0 0 0 0 0 15400 44600 0 0 0 ∷
-    sums 0 0 0 0 10000 10000 0 0 0 0 0 ∷
-    sums 0 0 30000 1560 0 0 31560 0 0 0 0 ∷
-    sums 0 1000 0 0 5000 6000 0 0 0 0 0 ∷
-    sums 1000 700 500 0 0 0 0 0 1000 500 700 ∷
+    sums 300000 0 0 0 0 0 80000 220000 0 0 0 0 0 ∷
+    sums 60000 0 0 0 0 0 0 15400 44600 0 0 0 0 ∷
+    sums 0 0 0 0 0 10000 10000 0 0 0 0 0 0 ∷
+    sums 0 0 30000 0 1560 0 0 31560 0 0 0 0 0 ∷
+    sums 0 1000 0 0 0 5000 6000 0 0 0 0 0 0 ∷
+    sums 1000 700 500 0 0 0 0 0 0 1000 500 0 700 ∷
+    sums 0 70000 0 20700 0 0 71000 6000 13000 0 0 700 0 ∷
     []
 
 -- proofs/Witness.antt shows it
 pub record Witness : Type 0 where
   pub answered : answersIn calls ≡ answers
-  pub accounts : map (λ (a : ℕ). sumsOf (historyOf calls) a) (1 ∷ 2 ∷ 3 ∷ 4 ∷ 5 ∷ 6 ∷ []) ≡ summed
+  pub accounts : map (λ (a : ℕ). sumsOf (historyOf calls) a) (1 ∷ 2 ∷ 3 ∷ 4 ∷ 5 ∷ 6 ∷ 7 ∷ []) ≡ summed

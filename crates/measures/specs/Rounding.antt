@@ -1,4 +1,4 @@
--- Rounding (document 01: to the nearest in kinds 3 and 6, down in kind 2): one law of each, for any divisor.
+-- Rounding (to the nearest in kinds 3 and 6, down in kinds 2 and 10): one law of each, for any divisor.
 use Prim.Native.Nat.{ℕ, _+_, _-_, _*_, _/_, _<_, _≤_}
 use mathlib.Core.Path.{_≡_}
 

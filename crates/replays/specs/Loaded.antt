@@ -13,7 +13,7 @@ use Rattle.replays.specs.declared.Loaded.{Loaded}
 use Rattle.replays.specs.declared.LoadAnswer.{LoadAnswer}
 use Rattle.replays.specs.declared.LoadAnswer.the-variants.{Accepted, Refused}
 
--- what a load gives, in document 01's numbers: the book, the refusal, and the record at fault, 0 where none is
+-- what a load gives, in the documents' numbers: the book, the refusal, and the record at fault, 0 where none is
 pub record LoadedReply : Type 0 where
   pub book : Book
   pub refusal : ℕ
@@ -34,7 +34,7 @@ acceptedLoad b = record { book = b; refusal = 0; faulty = 0 }
 abbrev pub refusedLoad : ℕ → ℕ → LoadedReply
 refusedLoad n i = record { book = freshBook; refusal = n; faulty = i }
 
--- the refusal of a record, or 0: by 1 to 16 as posted, and then
+-- the refusal of a record, or 0: by 1 to 16 or 24 to 26 as posted, and then
 -- 20: a record's next index is not its account's previous entry
 unfoldable pub recordRefusal : Book → Record → ℕ
 recordRefusal b r =

@@ -1,6 +1,7 @@
 // The records of an image, or a run of entries, posted in turn: for a load and for a carry-over.
 use book::Book;
 use book::Search;
+use book::Window;
 use book::decision;
 use book::slot;
 use changes::Decision;
@@ -37,8 +38,8 @@ pub fn refused(refusal: Refusal, record: u16) -> Loaded
     }
 }
 
-// What ends an image at a record: its refusal by 1 to 16 as it is posted, or by 20, where `newest` is its account's previous entry.
-// Nothing ends a run of entries.
+// What ends an image at a record: its refusal by 1 to 16 or 24 to 26 as it is posted, or by 20, where `newest` is its
+// account's previous entry. Nothing ends a run of entries.
 fn stop(decision: Decision, image: bool, next: u16, newest: u16) -> Check
     ensures { λ r. ⌜ r ≡ stopOf decision image next newest ⌝ }
 {
@@ -84,7 +85,13 @@ pub fn replay(mut book: Book, records: &[u8], image: bool, results: &mut [u8]) -
         }
         let place = search.place();
         let entry = book.entries[place];
-        let decision = decision(raw, count, last, account, search, entry);
+        let mut window = Window::of(raw, account.newest);
+        while window.goes_on() {
+            let j = window.place();
+            let passed = book.entries[j];
+            window = window.past(passed);
+        }
+        let decision = decision(raw, count, last, account, search, entry, window.paid);
         let number = one_more(count);
         put_result(results, i, decision.refusal());
         i += 1;

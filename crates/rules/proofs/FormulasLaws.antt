@@ -15,7 +15,7 @@ use Rattle.entries.specs.Data.{metres}
 use Rattle.entries.specs.declared.raw.Raw.{Raw}
 use Rattle.entries.specs.declared.kinds.Kind.the-variants as kind
 use Rattle.entries.proofs.Ranges.{ranged}
-use Rattle.rules.specs.Formulas.{refund, billedOf, refundOf, interestOf, Plain, PlainEntries, RoundedNearest, RefundFloor}
+use Rattle.rules.specs.Formulas.{refund, billedOf, refundOf, interestOf, Plain, PlainEntries, RoundedNearest, RefundFloor, GivenBackFloor}
 
 -- a product of two numbers within bounds whose product fits
 fits : (m n a b : ℕ) → a ≤ m → b ≤ n → m * n ≤ most → min (a * b) most ≡ a * b
@@ -68,3 +68,6 @@ pub refund-floor : RefundFloor
 refund-floor held contribution shared built added h =
     let d : 0 < built * (added + 2) = mul-pos h (omega arith) in
     (_, floors (contribution * shared) (built * (added + 2)) d, refl)
+
+pub given-back-floor : GivenBackFloor
+given-back-floor held paid = (_, floors paid 10 (omega arith), refl)

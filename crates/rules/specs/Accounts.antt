@@ -1,5 +1,6 @@
 -- An account, and the two moves that serve all kinds.
 use Prim.Native.Nat.{ℕ}
+use mathlib.Core.Bool.{Bool, false}
 use Rattle.measures.specs.Cents.{cents, plusOf, minusOf}
 use Rattle.measures.specs.Days.{day}
 use Rattle.measures.specs.declared.Cents.{Cents}
@@ -8,13 +9,21 @@ use Rattle.rules.specs.Moves.{settles, leaves, covers, owes}
 use Rattle.rules.specs.declared.accounts.Account.{Account}
 use Rattle.rules.specs.declared.accounts.Credited.{Credited}
 
-abbrev pub accountOf : Cents → Cents → Cents → ℕ → Day → ℕ → Account
-accountOf arrears credit deposit rate deposited newest =
-    record { arrears = arrears; credit = credit; deposit = deposit; rate = rate; deposited = deposited; newest = newest }
+abbrev pub accountOf : Cents → Cents → Cents → ℕ → Day → Bool → ℕ → Account
+accountOf arrears credit deposit rate deposited guarantee newest =
+    record {
+      arrears = arrears;
+      credit = credit;
+      deposit = deposit;
+      rate = rate;
+      deposited = deposited;
+      «guarantee_open» = guarantee;
+      newest = newest;
+    }
 
 -- an account with no entries
 abbrev pub noAccount : Account
-noAccount = accountOf (cents 0) (cents 0) (cents 0) 0 (day 0) 0
+noAccount = accountOf (cents 0) (cents 0) (cents 0) 0 (day 0) false 0
 
 -- To credit c
 unfoldable pub creditedOf : Account → Cents → Credited
@@ -22,7 +31,7 @@ creditedOf acc c =
     let settled = cents (settles (c .0) (acc .arrears .0)) in
     record {
       account =
-          accountOf (minusOf (acc .arrears) settled) (acc .credit) (acc .deposit) (acc .rate) (acc .deposited) (acc .newest);
+          accountOf (minusOf (acc .arrears) settled) (acc .credit) (acc .deposit) (acc .rate) (acc .deposited) (acc .«guarantee_open») (acc .newest);
       settled = settled;
       left = cents (leaves (c .0) (acc .arrears .0));
     }
@@ -30,7 +39,7 @@ creditedOf acc c =
 -- what is left over is added to credit
 unfoldable pub plusCreditOf : Account → Cents → Account
 plusCreditOf acc left =
-    accountOf (acc .arrears) (plusOf (acc .credit) left) (acc .deposit) (acc .rate) (acc .deposited) (acc .newest)
+    accountOf (acc .arrears) (plusOf (acc .credit) left) (acc .deposit) (acc .rate) (acc .deposited) (acc .«guarantee_open») (acc .newest)
 
 -- To charge c
 unfoldable pub chargedOf : Account → Cents → Account
@@ -40,13 +49,18 @@ chargedOf acc c =
     (acc .deposit)
     (acc .rate)
     (acc .deposited)
+    (acc .«guarantee_open»)
     (acc .newest)
 
 -- the account with a deposit held
 unfoldable pub withDepositOf : Account → Cents → ℕ → Day → Account
 withDepositOf acc deposit rate deposited =
-    accountOf (acc .arrears) (acc .credit) deposit rate deposited (acc .newest)
+    accountOf (acc .arrears) (acc .credit) deposit rate deposited (acc .«guarantee_open») (acc .newest)
+
+-- the account with a guarantee open, or none
+unfoldable pub withGuaranteeOf : Account → Bool → Account
+withGuaranteeOf acc guarantee = accountOf (acc .arrears) (acc .credit) (acc .deposit) (acc .rate) (acc .deposited) guarantee (acc .newest)
 
 -- the account with a newest entry
 unfoldable pub withNewestOf : Account → ℕ → Account
-withNewestOf acc newest = accountOf (acc .arrears) (acc .credit) (acc .deposit) (acc .rate) (acc .deposited) newest
+withNewestOf acc newest = accountOf (acc .arrears) (acc .credit) (acc .deposit) (acc .rate) (acc .deposited) (acc .«guarantee_open») newest

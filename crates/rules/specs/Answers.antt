@@ -1,4 +1,4 @@
--- What a posting answers, in document 01's numbers.
+-- What a posting answers, in the documents' numbers.
 use Prim.Native.Nat.{ℕ}
 use Rattle.measures.specs.declared.Cents.{Cents}
 use Rattle.entries.specs.Refusals.{refusalNumber}

@@ -1,4 +1,4 @@
--- The refusals that the account and the named entry decide, in checking order: 8 to 16.
+-- The refusals that the account and the named entry decide, in checking order: 8 to 16, 24 beside 9, 25 and 26 after 13.
 use Prim.Native.Nat.{ℕ, _+_}
 use mathlib.Core.Bool.{Bool, _&&_, _||_}
 use mathlib.Core.List.{List, [], _∷_}
@@ -25,6 +25,22 @@ refundPeriod = 1826
 abbrev pub periodEnd : Day → ℕ
 periodEnd contributed = contributed .0 + refundPeriod
 
+-- the days from a guarantee, or from a reduction of it, to its next reduction
+abbrev pub reductionInterval : ℕ
+reductionInterval = 365
+
+-- the first day on which a guarantee may be reduced, where it was given or last reduced on a day
+abbrev pub nextReduction : Day → ℕ
+nextReduction reduced = reduced .0 + reductionInterval
+
+-- the days from a guarantee on after which its rest may be retained
+abbrev pub guaranteePeriod : ℕ
+guaranteePeriod = 1826
+
+-- the first day on which the rest of a guarantee of a day may be retained
+abbrev pub guaranteeEnd : Day → ℕ
+guaranteeEnd given = given .0 + guaranteePeriod
+
 -- a deposit comes while one is held, or a return while none is; a deposit is held while its amount is above 0
 abbrev pub depositClash : Kind → Cents → Bool
 depositClash k held = sameOf k kind.Deposit && ltb 0 (held .0) || sameOf k kind.DepositReturn && eqb (held .0) 0
@@ -33,6 +49,7 @@ depositClash k held = sameOf k kind.Deposit && ltb 0 (held .0) || sameOf k kind.
 abbrev pub ownRows : Raw → Kind → Account → List Row
 ownRows r k acc =
     (depositClash k (acc .deposit) ⇒ no.DepositState) ∷
+    (sameOf k kind.Guarantee && acc .«guarantee_open» ⇒ no.GuaranteeOpen) ∷
     (sameOf k kind.DepositReturn && ltb (r .day) (acc .deposited .0) ⇒ no.DayBefore) ∷
     []
 
@@ -45,6 +62,8 @@ namingRows r k e =
     (n .closed ⇒ no.Closed) ∷
     (sameOf k kind.AddedCustomer && leb (periodEnd (e .day)) (r .day) ⇒ no.PeriodOver) ∷
     (sameOf k kind.Expiry && ltb (r .day) (periodEnd (e .day)) ⇒ no.PeriodRunning) ∷
+    (sameOf k kind.Reduction && ltb (r .day) (nextReduction (n .reduced)) ⇒ no.ReductionEarly) ∷
+    (sameOf k kind.Retention && ltb (r .day) (guaranteeEnd (e .day)) ⇒ no.RetentionEarly) ∷
     (sameOf k kind.AddedCustomer && (eqb (r .b) 1 && eqb (n .phases) 3) ⇒ no.OnePhase) ∷
     (sameOf k kind.AddedCustomer && ltb (n .built .0) (r .a) ⇒ no.MetresExceeded) ∷
     (n .corrected ⇒ no.CorrectedBefore) ∷

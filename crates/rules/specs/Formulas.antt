@@ -1,4 +1,4 @@
--- The formulas of kinds 2, 3 and 6: document 01's on plain numbers, and those of the code, whose products stop at 2^64 - 1.
+-- The formulas of kinds 2, 3, 6 and 10: the documents' on plain numbers, and those of the code, whose products stop at 2^64 - 1.
 use Prim.Native.Nat.{ℕ, _+_, _-_, _*_, _/_, min, _≤_, _<_}
 use mathlib.Core.Path.{_≡_}
 use mathlib.Core.Bool.{true}
@@ -26,6 +26,10 @@ refund held contribution shared built added = min held (contribution * shared / 
 abbrev pub interest : ℕ → ℕ → ℕ → ℕ
 interest deposit rate t = (2 * (deposit * rate * t) + 3650000) / 7300000
 
+-- 10: the smaller of held and floor(payments in the window / 10)
+abbrev pub givenBack : ℕ → ℕ → ℕ
+givenBack held paid = min held (paid / 10)
+
 unfoldable pub billedOf : Cents → ℕ → ℕ → Cents
 billedOf charge served period = roundedOf (timesOf charge served) period
 
@@ -34,6 +38,9 @@ refundOf n shared = cents (min (n .held .0) (productOf (n .amount .0) (shared .0
 
 unfoldable pub interestOf : Cents → ℕ → ℕ → Cents
 interestOf deposit rate days = roundedOf (timesOf (timesOf deposit rate) days) 3650000
+
+unfoldable pub givenBackOf : Cents → Cents → Cents
+givenBackOf held paid = cents (givenBack (held .0) (paid .0))
 
 -- Within these limits no product reaches 2^64 - 1, and the code's formulas are document 01's.
 pub record Plain : Type 0 where
@@ -61,3 +68,7 @@ pub record RoundedNearest : Type 0 where
 abbrev pub RefundFloor : Type 0
 RefundFloor = (held contribution shared built added : ℕ) → 0 < built →
     (share : ℕ) × Floor (contribution * shared) (built * (added + 2)) share × (refund held contribution shared built added ≡ min held share)
+
+-- A reduction is the smaller of what is held and a tenth of the sum of the payments, rounded down once.
+abbrev pub GivenBackFloor : Type 0
+GivenBackFloor = (held paid : ℕ) → (tenth : ℕ) × Floor paid 10 tenth × (givenBack held paid ≡ min held tenth)

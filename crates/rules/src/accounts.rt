@@ -2,7 +2,7 @@
 use measures::Cents;
 use measures::Day;
 ghost use mathlib.Core.Path.{_≡_};
-ghost use Rattle.rules.specs.Accounts.{noAccount, creditedOf, plusCreditOf, chargedOf, withDepositOf, withNewestOf};
+ghost use Rattle.rules.specs.Accounts.{noAccount, creditedOf, plusCreditOf, chargedOf, withDepositOf, withGuaranteeOf, withNewestOf};
 
 pub struct Account {
     pub arrears: Cents,
@@ -11,6 +11,8 @@ pub struct Account {
     pub deposit: Cents,
     pub rate: u64,
     pub deposited: Day,
+    // Whether one of its guarantees is open.
+    pub guarantee_open: bool,
     // The number of the account's newest entry, 0 where it has none.
     pub newest: u16,
 }
@@ -32,6 +34,7 @@ impl Account {
             deposit: Cents(0),
             rate: 0,
             deposited: Day(0),
+            guarantee_open: false,
             newest: 0,
         }
     }
@@ -74,6 +77,13 @@ impl Account {
         self.deposit = deposit;
         self.rate = rate;
         self.deposited = deposited;
+        self
+    }
+
+    pub fn with_guarantee(mut self, guarantee_open: bool) -> Account
+        ensures { λ r. ⌜ r ≡ withGuaranteeOf self «guarantee_open» ⌝ }
+    {
+        self.guarantee_open = guarantee_open;
         self
     }
 

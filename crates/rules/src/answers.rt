@@ -17,7 +17,7 @@ pub enum PostingAnswer {
     Accepted { number: u16, amounts: Amounts },
 }
 
-// An answer in document 01's numbers.
+// An answer in the documents' numbers.
 pub struct PostingReply {
     pub refusal: u8,
     pub number: u16,

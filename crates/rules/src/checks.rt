@@ -1,4 +1,4 @@
-// The refusals that the account and the named entry decide: 8 to 16.
+// The refusals that the account and the named entry decide: 8 to 16, and 24 to 26.
 use crate::accounts::Account;
 use entries::Check;
 use entries::Entry;
@@ -10,7 +10,7 @@ use entries::either;
 use measures::Cents;
 use measures::Day;
 ghost use mathlib.Core.Path.{_≡_};
-ghost use Rattle.rules.specs.Checks.{periodEnd, depositClash, checkOwnOf, checkNamingOf};
+ghost use Rattle.rules.specs.Checks.{periodEnd, nextReduction, guaranteeEnd, depositClash, checkOwnOf, checkNamingOf};
 
 // The days from a contribution on in which added customers bring refunds; an expiry comes after them.
 const REFUND_PERIOD: u16 = 1826;
@@ -20,6 +20,26 @@ fn period_end(contributed: Day) -> u32
     ensures { λ r. ⌜ r ≡ periodEnd contributed ⌝ }
 {
     contributed.0 as u32 + REFUND_PERIOD as u32
+}
+
+// The days from a guarantee, or from a reduction of it, to its next reduction.
+const REDUCTION_INTERVAL: u16 = 365;
+
+// The first day on which a guarantee may be reduced, where it was given or last reduced on a day.
+fn next_reduction(reduced: Day) -> u32
+    ensures { λ r. ⌜ r ≡ nextReduction reduced ⌝ }
+{
+    reduced.0 as u32 + REDUCTION_INTERVAL as u32
+}
+
+// The days from a guarantee on after which its rest may be retained.
+const GUARANTEE_PERIOD: u16 = 1826;
+
+// The first day on which the rest of a guarantee of a day may be retained.
+fn guarantee_end(given: Day) -> u32
+    ensures { λ r. ⌜ r ≡ guaranteeEnd given ⌝ }
+{
+    given.0 as u32 + GUARANTEE_PERIOD as u32
 }
 
 // A deposit comes while one is held, or a return while none is.
@@ -32,7 +52,7 @@ fn deposit_clash(kind: Kind, held: Cents) -> bool
     )
 }
 
-// 9 and 10 of an entry that names nothing.
+// 9, 24 and 10 of an entry that names nothing.
 pub fn check_own(raw: Raw, kind: Kind, account: Account) -> Check
     ensures { λ r. ⌜ r ≡ checkOwnOf raw kind account ⌝ }
 {
@@ -40,12 +60,16 @@ pub fn check_own(raw: Raw, kind: Kind, account: Account) -> Check
     Check::Passed
         .refuse_if(deposit_clash(kind, account.deposit), Refusal::DepositState)
         .refuse_if(
+            both(kind.is(Kind::Guarantee), account.guarantee_open),
+            Refusal::GuaranteeOpen,
+        )
+        .refuse_if(
             both(kind.is(Kind::DepositReturn), before),
             Refusal::DayBefore,
         )
 }
 
-// 8, for the kind of the named entry, and 10 to 16 of an entry that names one.
+// 8, for the kind of the named entry, 10 to 13, 25, 26 and 14 to 16 of an entry that names one.
 pub fn check_naming(raw: Raw, kind: Kind, entry: Entry) -> Check
     ensures { λ r. ⌜ r ≡ checkNamingOf raw kind entry ⌝ }
 {
@@ -64,6 +88,17 @@ pub fn check_naming(raw: Raw, kind: Kind, entry: Entry) -> Check
         .refuse_if(
             both(kind.is(Kind::Expiry), day < end),
             Refusal::PeriodRunning,
+        )
+        .refuse_if(
+            both(
+                kind.is(Kind::Reduction),
+                day < next_reduction(particulars.reduced),
+            ),
+            Refusal::ReductionEarly,
+        )
+        .refuse_if(
+            both(kind.is(Kind::Retention), day < guarantee_end(entry.day)),
+            Refusal::RetentionEarly,
         )
         .refuse_if(both(added, one_to_three), Refusal::OnePhase)
         .refuse_if(

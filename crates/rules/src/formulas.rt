@@ -1,4 +1,4 @@
-// The formulas: a bill's billed amount, a contribution's refund, a deposit's interest.
+// The formulas: a bill's billed amount, a contribution's refund, a deposit's interest, a guarantee's reduction.
 use entries::Particulars;
 use measures::Cents;
 use measures::Metres;
@@ -6,7 +6,7 @@ use measures::product;
 use measures::quotient;
 use measures::smaller;
 ghost use mathlib.Core.Path.{_≡_};
-ghost use Rattle.rules.specs.Formulas.{billedOf, refundOf, interestOf};
+ghost use Rattle.rules.specs.Formulas.{billedOf, refundOf, interestOf, givenBackOf};
 
 // The charge for the full period, for the days served of it.
 pub fn billed(charge: Cents, served: u8, period: u16) -> Cents
@@ -36,4 +36,11 @@ pub fn interest(deposit: Cents, rate: u64, days: u16) -> Cents
     ensures { λ r. ⌜ r ≡ interestOf deposit rate days ⌝ }
 {
     deposit.times(rate).times(days as u64).rounded(RATE_YEAR)
+}
+
+// What a reduction gives back: a tenth of the payments in its window, and not more than is held.
+pub fn given_back(held: Cents, paid: Cents) -> Cents
+    ensures { λ r. ⌜ r ≡ givenBackOf held paid ⌝ }
+{
+    Cents(smaller(held.0, paid.0 / 10))
 }

@@ -3,6 +3,7 @@ mod accounts;
 mod answers;
 mod checks;
 mod formulas;
+mod windows;
 
 pub use accounts::Account;
 pub use accounts::Credited;
@@ -12,5 +13,7 @@ pub use answers::PostingReply;
 pub use checks::check_naming;
 pub use checks::check_own;
 pub use formulas::billed;
+pub use formulas::given_back;
 pub use formulas::interest;
 pub use formulas::refund;
+pub use windows::paid_within;

@@ -21,7 +21,7 @@ use Rattle.entries.specs.declared.raw.Raw.{Raw}
 use Rattle.entries.specs.declared.kinds.Kind.{Kind}
 use Rattle.entries.specs.declared.kinds.Kind.the-variants as kind
 use Rattle.entries.specs.declared.data.Data.{Data}
-use Rattle.entries.specs.declared.data.Data.the-variants.{Unused, Contribution, AddedCustomer, Bill, Payment, Deposit, DepositReturn, Expiry, Correction}
+use Rattle.entries.specs.declared.data.Data.the-variants.{Unused, Contribution, AddedCustomer, Bill, Payment, Deposit, DepositReturn, Expiry, Correction, Guarantee, Reduction, Retention}
 
 -- an amount in 32 bits; no entry that was accepted has one that does not fit
 abbrev pub narrow : Cents → ℕ
@@ -55,6 +55,9 @@ rawWith e (Deposit amount rate) = rawFrom kind.Deposit e amount 0 rate 0 0
 rawWith e DepositReturn = rawFrom kind.DepositReturn e (cents 0) 0 0 0 0
 rawWith e (Expiry namedNode namedSerial) = rawFrom kind.Expiry e (cents 0) namedSerial 0 0 namedNode
 rawWith e (Correction namedNode namedSerial amount) = rawFrom kind.Correction e amount namedSerial 0 0 namedNode
+rawWith e (Guarantee closed reduced amount held) = rawFrom kind.Guarantee e amount 0 0 0 0
+rawWith e (Reduction namedNode namedSerial) = rawFrom kind.Reduction e (cents 0) namedSerial 0 0 namedNode
+rawWith e (Retention namedNode namedSerial) = rawFrom kind.Retention e (cents 0) namedSerial 0 0 namedNode
 
 unfoldable pub rawOf : Entry → Raw
 rawOf e = rawWith e (e .«data»)

@@ -103,15 +103,15 @@ fn raw_of(entry: Entry) -> Raw
         Data::Payment { amount, .. } => raw_from(Kind::Payment, entry, amount, 0, 0, 0, 0),
         Data::Deposit { amount, rate } => raw_from(Kind::Deposit, entry, amount, 0, rate, 0, 0),
         Data::DepositReturn => raw_from(Kind::DepositReturn, entry, Cents(0), 0, 0, 0, 0),
-        Data::Expiry {
-            named_node,
-            named_serial,
-        } => naming(Kind::Expiry, entry, Cents(0), named_node, named_serial),
+        Data::Expiry(node, serial) => naming(Kind::Expiry, entry, Cents(0), node, serial),
         Data::Correction {
             named_node,
             named_serial,
             amount,
         } => naming(Kind::Correction, entry, amount, named_node, named_serial),
+        Data::Guarantee { amount, .. } => raw_from(Kind::Guarantee, entry, amount, 0, 0, 0, 0),
+        Data::Reduction(node, serial) => naming(Kind::Reduction, entry, Cents(0), node, serial),
+        Data::Retention(node, serial) => naming(Kind::Retention, entry, Cents(0), node, serial),
     }
 }
 

@@ -1,4 +1,4 @@
-//! Refusals 1 to 16, in checking order.
+//! Refusals 1 to 16 and 24 to 26, in checking order.
 
 use super::*;
 
@@ -13,6 +13,9 @@ pub(super) enum Accepted {
     DepositReturn,
     Expiry(usize),
     Correction(usize),
+    Guarantee,
+    Reduction(usize),
+    Retention(usize),
 }
 
 type Checked = Result<Accepted, u8>;
@@ -63,10 +66,10 @@ fn in_range(raw: &Raw) -> bool {
             let period = (1..=MAX_PERIOD).contains(&raw.a);
             amount && not_named && period && u16::from(raw.b) <= raw.a
         }
-        PAYMENT => amount && not_named && no_a && no_b,
+        PAYMENT | GUARANTEE => amount && not_named && no_a && no_b,
         DEPOSIT => amount && not_named && raw.a <= MAX_RATE && no_b,
         DEPOSIT_RETURN => no_amount && not_named && no_a && no_b,
-        EXPIRY => no_amount && named && no_a && no_b,
+        EXPIRY | REDUCTION | RETENTION => no_amount && named && no_a && no_b,
         CORRECTION => raw.amount <= AMOUNT_MOST && named && no_a && no_b,
         _ => false,
     }
@@ -78,7 +81,7 @@ impl Book {
         self.check(raw).err().unwrap_or(0)
     }
 
-    /// Refusals 1 to 16 of a posting.
+    /// The refusals of a posting.
     pub(super) fn check(&self, raw: &Raw) -> Checked {
         check_fields(raw)?;
         let last = self.last_serials[usize::from(raw.node) - 1];
@@ -92,7 +95,10 @@ impl Book {
             DEPOSIT => self.check_deposit(raw),
             DEPOSIT_RETURN => self.check_deposit_return(raw),
             EXPIRY => self.check_expiry(raw),
-            _ => self.check_correction(raw),
+            CORRECTION => self.check_correction(raw),
+            GUARANTEE => self.check_guarantee(raw),
+            REDUCTION => self.check_reduction(raw),
+            _ => self.check_retention(raw),
         }
     }
 
@@ -134,6 +140,29 @@ impl Book {
         refuse(raw.day < named.raw.day, 10)?;
         refuse(named.corrected, 16)?;
         Ok(Accepted::Correction(place))
+    }
+
+    fn check_guarantee(&self, raw: &Raw) -> Checked {
+        refuse(self.account(raw.account).guarantee_open, 24)?;
+        Ok(Accepted::Guarantee)
+    }
+
+    fn check_reduction(&self, raw: &Raw) -> Checked {
+        let place = self.named(raw, &[GUARANTEE])?;
+        let guarantee = &self.entries[place];
+        refuse(raw.day < guarantee.raw.day, 10)?;
+        refuse(guarantee.closed, 11)?;
+        refuse(raw.day < guarantee.reduced + REDUCTION_INTERVAL, 25)?;
+        Ok(Accepted::Reduction(place))
+    }
+
+    fn check_retention(&self, raw: &Raw) -> Checked {
+        let place = self.named(raw, &[GUARANTEE])?;
+        let guarantee = &self.entries[place];
+        refuse(raw.day < guarantee.raw.day, 10)?;
+        refuse(guarantee.closed, 11)?;
+        refuse(raw.day - guarantee.raw.day < GUARANTEE_PERIOD, 26)?;
+        Ok(Accepted::Retention(place))
     }
 
     /// The place of the named entry, sought along the account's chain;

@@ -47,8 +47,8 @@ impl Book {
         self.check_record(reply, next)
     }
 
-    /// The record posted last: by 1 to 16 as its posting was answered, then
-    /// its next index by 20.
+    /// The record posted last: as its posting was answered, then its next
+    /// index by 20.
     pub(crate) fn check_record(&self, reply: PostingReply, next: u16) -> Result<(), u8> {
         if reply.refusal != 0 {
             return Err(reply.refusal);

@@ -49,8 +49,11 @@ impl Book {
             Accepted::Payment => self.payment(raw),
             Accepted::Deposit => self.deposit(raw),
             Accepted::DepositReturn => self.deposit_return(raw),
-            Accepted::Expiry(place) => self.expiry(place),
+            Accepted::Expiry(place) => self.retain(place),
             Accepted::Correction(place) => self.correction(raw, place),
+            Accepted::Guarantee => self.guarantee(raw),
+            Accepted::Reduction(place) => self.reduction(raw, place),
+            Accepted::Retention(place) => self.retention(raw, place),
         }
     }
 
@@ -59,24 +62,13 @@ impl Book {
         PostingReply::default()
     }
 
-    /// The refund is credited; what is left over is paid out.
     fn added_customer(&mut self, raw: &Raw, place: usize) -> PostingReply {
         let contribution = &mut self.entries[place];
         let k = 2 + u64::from(contribution.added);
         let share = u64::from(contribution.raw.amount) * u64::from(raw.a)
             / (u64::from(contribution.raw.a) * k);
-        let refund = share.min(contribution.held);
-        let account = &mut self.accounts[usize::from(raw.account) - 1];
-        let (settled, paid_out) = account.credit(refund);
-        contribution.held -= refund;
-        contribution.to_arrears += settled;
-        contribution.paid_out += paid_out;
         contribution.added += 1;
-        PostingReply {
-            settled,
-            paid_out,
-            ..PostingReply::default()
-        }
+        self.give_back(place, share)
     }
 
     fn bill(&mut self, raw: &Raw) -> PostingReply {
@@ -118,18 +110,6 @@ impl Book {
         }
     }
 
-    /// What is still held is retained and the contribution is closed.
-    fn expiry(&mut self, place: usize) -> PostingReply {
-        let contribution = &mut self.entries[place];
-        contribution.retained = contribution.held;
-        contribution.held = 0;
-        contribution.closed = true;
-        PostingReply {
-            retained: contribution.retained,
-            ..PostingReply::default()
-        }
-    }
-
     /// The named entry's standing amount becomes the new one. A bill that
     /// grows, or a payment that shrinks, charges the difference; the others
     /// credit it.
@@ -149,6 +129,68 @@ impl Book {
             PostingReply::default()
         } else {
             self.credit_keeping_rest(raw.account, new.abs_diff(old))
+        }
+    }
+
+    fn guarantee(&mut self, raw: &Raw) -> PostingReply {
+        let entry = self.appended();
+        entry.held = u64::from(raw.amount);
+        entry.reduced = raw.day;
+        self.account_mut(raw.account).guarantee_open = true;
+        PostingReply::default()
+    }
+
+    fn reduction(&mut self, raw: &Raw, place: usize) -> PostingReply {
+        let tenth = self.paid_within(raw.account, raw.day) / 10;
+        self.entries[place].reduced = raw.day;
+        self.give_back(place, tenth)
+    }
+
+    /// The account's standing payments of the days that end with this one.
+    fn paid_within(&self, account: u16, last: u16) -> u64 {
+        let in_window = |entry: &&Entry| {
+            let days_before = last.checked_sub(entry.raw.day);
+            days_before.is_some_and(|days| days < WINDOW_DAYS)
+        };
+        self.chain(account)
+            .map(|place| &self.entries[place])
+            .filter(|entry| entry.raw.kind == PAYMENT)
+            .filter(in_window)
+            .map(|entry| entry.standing)
+            .sum()
+    }
+
+    fn retention(&mut self, raw: &Raw, place: usize) -> PostingReply {
+        self.account_mut(raw.account).guarantee_open = false;
+        self.retain(place)
+    }
+
+    /// Gives back up to `amount` of what the entry holds: it is credited, and
+    /// what is left over is paid out.
+    fn give_back(&mut self, place: usize, amount: u64) -> PostingReply {
+        let entry = &mut self.entries[place];
+        let amount = amount.min(entry.held);
+        let account = &mut self.accounts[usize::from(entry.raw.account) - 1];
+        let (settled, paid_out) = account.credit(amount);
+        entry.held -= amount;
+        entry.to_arrears += settled;
+        entry.paid_out += paid_out;
+        PostingReply {
+            settled,
+            paid_out,
+            ..PostingReply::default()
+        }
+    }
+
+    /// What the entry still holds is retained, and it is closed.
+    fn retain(&mut self, place: usize) -> PostingReply {
+        let entry = &mut self.entries[place];
+        entry.retained = entry.held;
+        entry.held = 0;
+        entry.closed = true;
+        PostingReply {
+            retained: entry.retained,
+            ..PostingReply::default()
         }
     }
 

@@ -68,7 +68,9 @@ impl Book {
         };
         for place in self.chain(account) {
             let entry = &self.entries[place];
-            reply.held += entry.held;
+            if entry.raw.kind == CONTRIBUTION {
+                reply.held += entry.held;
+            }
             if reply.links_read == allowance {
                 reply.complete = false;
                 continue;

@@ -39,9 +39,19 @@ returns-9 : tie.Need-returns-9
 unfolding rawOf
 returns-9 c = rw (c .before .before .data7 .given .1) (c .naming2 .ensures)
 
+returns-10 : tie.Need-returns-10
+unfolding rawOf
+returns-10 c = rw (c .before .before .data8 .given .1) (c .raw-from7 .ensures)
+
+returns-11 : tie.Need-returns-11
+unfolding rawOf
+returns-11 c = rw (c .before .before .data9 .given .1) (c .naming3 .ensures)
+
+returns-12 : tie.Need-returns-12
+unfolding rawOf
+returns-12 c = rw (c .before .before .data10 .given .1) (c .naming4 .ensures)
+
 pub raw-of-spec : {M : Type 1} → statement M
 raw-of-spec =
-    tie.close (tie.spec (λ c. search needs) (λ c κs. search needs) (λ c. search needs) (λ c κs. search needs) (λ c. search needs)
-    (λ c κs. search needs) (λ c. search needs) (λ c κs. search needs) (λ c. search needs) (λ c κs. search needs) (λ c. search needs)
-    (λ c κs. search needs) (λ c. search needs) (λ c κs. search needs) (λ c. search needs) (λ c κs. search needs) (λ c. search needs)
-    (λ c κs. search needs) returns returns-2 returns-3 returns-4 returns-5 returns-6 returns-7 returns-8 returns-9)
+    tie.close (tie.spec (λ c. search needs) (λ c κs. search needs) (λ c. search needs) (λ c κs. search needs) (λ c. search needs) (λ c κs. search needs) (λ c. search needs) (λ c κs. search needs) (λ c. search needs) (λ c κs. search needs) (λ c. search needs) (λ c κs. search needs) (λ c. search needs) (λ c κs. search needs) (λ c. search needs) (λ c κs. search needs) (λ c. search needs) (λ c κs. search needs) (λ c. search needs) (λ c κs. search needs) (λ c. search needs) (λ c κs. search needs) (λ c. search needs) (λ c κs. search needs)
+    returns returns-2 returns-3 returns-4 returns-5 returns-6 returns-7 returns-8 returns-9 returns-10 returns-11 returns-12)

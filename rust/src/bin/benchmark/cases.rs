@@ -43,6 +43,7 @@ impl Case {
 
 /// The account of the runs of one kind.
 const ACCOUNT: u16 = 5;
+const KINDS: usize = LAST_KIND as usize;
 
 /// The calls that are timed, all accepted, as are all their entries.
 pub fn cases() -> Vec<Case> {
@@ -81,6 +82,11 @@ fn runs() -> Vec<Case> {
             &customers,
         ),
         carry_over(
+            "100 reductions after a chain of 500",
+            &guarantee_chain(),
+            &reductions(),
+        ),
+        carry_over(
             "500 corrections after the 500 payments",
             &payments,
             &corrections,
@@ -88,17 +94,46 @@ fn runs() -> Vec<Case> {
     ]
 }
 
-/// Runs of one kind, each beside a run of no entries into the same image.
-pub fn postings() -> [[Case; 2]; 2] {
+/// Runs of one kind, each beside a run of no entries into the same image. Those
+/// of 100 compare an added customer with a reduction.
+pub fn postings() -> [[Case; 2]; 4] {
     let contribution = run(CONTRIBUTION, 1..=1);
     let chain = [&contribution[..], &run(PAYMENT, 2..=500)].concat();
     let payments = run(PAYMENT, 501..=1_000);
     let customers = run(ADDED_CUSTOMER, 501..=1_000);
-    let beside_none = |name, run: &[Raw]| [run, &[]].map(|run| carry_over(name, &chain, run));
+    let customer = "an added customer after a chain of 500";
+    let beside_none =
+        |name, chain: &[Raw], run: &[Raw]| [run, &[]].map(|run| carry_over(name, chain, run));
     [
-        beside_none("a payment after a chain of 500", &payments),
-        beside_none("an added customer after a chain of 500", &customers),
+        beside_none("a payment after a chain of 500", &chain, &payments),
+        beside_none(customer, &chain, &customers),
+        beside_none(customer, &chain, &customers[..100]),
+        beside_none(
+            "a reduction after a chain of 500",
+            &guarantee_chain(),
+            &reductions(),
+        ),
     ]
+}
+
+/// A guarantee, and 499 payments over all the days of the book.
+fn guarantee_chain() -> Vec<Raw> {
+    let guarantee = run(GUARANTEE, 1..=1);
+    [guarantee, dated(run(PAYMENT, 2..=500), 0, 73)].concat()
+}
+
+/// Reductions of that guarantee, each as early as it may come: the days of the
+/// book have room for 100.
+fn reductions() -> Vec<Raw> {
+    let run = run(REDUCTION, 501..=600);
+    dated(run, REDUCTION_INTERVAL, REDUCTION_INTERVAL)
+}
+
+/// The entries with days so many apart, from this one on.
+fn dated(entries: Vec<Raw>, first: u16, apart: u16) -> Vec<Raw> {
+    let days = (0..).map(|place| first + apart * place);
+    let dated = |(raw, day)| Raw { day, ..raw };
+    entries.into_iter().zip(days).map(dated).collect()
 }
 
 fn single_calls() -> Vec<Case> {
@@ -157,8 +192,8 @@ fn corrected(count: u32) -> [Vec<Raw>; 2] {
 /// a contribution, then each an added customer, and so on by kind.
 pub fn mixed(count: usize) -> Vec<Raw> {
     let entry_at = |place: usize| {
-        let kind = (place / 16 % 8) as u8 + 1;
-        let account = (place / 128 * 16 + place % 16) as u16 + 1;
+        let kind = (place / 16 % KINDS) as u8 + 1;
+        let account = (place / (16 * KINDS) * 16 + place % 16) as u16 + 1;
         let serial = place as u32 + 1;
         let named_serial = serial - 16 * u32::from(kind - named_kind(kind));
         entry(kind, account, serial, named_serial)

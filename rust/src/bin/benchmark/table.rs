@@ -71,14 +71,14 @@ pub fn print_printers<const N: usize>(times: &Times<N>) {
 /// The third table: what a posting takes, without the load and the save.
 pub fn print_postings_head() {
     println!();
-    println!("| A posting in a carry-over of 500 | ns | / copy |");
-    println!("|---|---:|---:|");
+    println!("| A posting in a carry-over | Postings | ns | / copy |");
+    println!("|---|---:|---:|---:|");
 }
 
 /// The sides are the call, the same call with no entries, and a copy.
 pub fn print_posting(name: &str, postings: usize, times: &Times<3>) {
     println!(
-        "| {name} | {:.0} | {:.3} |",
+        "| {name} | {postings} | {:.0} | {:.3} |",
         times.more(0, 1) * 1e3 / postings as f64,
         times.more_in(0, 1, 2) / postings as f64,
     );

@@ -13,6 +13,11 @@ const HALF_DAYS: u16 = 73;
 /// How many entries are drawn for one of a given refusal number.
 const DRAWS: usize = 128;
 
+/// What a posting can be refused by.
+pub const REFUSALS: [u8; 19] = [
+    1, 2, 3, 4, 5, 6, 7, 8, 9, 10, 11, 12, 13, 14, 15, 16, 24, 25, 26,
+];
+
 /// What the entries of a list are drawn from.
 pub struct Pool {
     pub accounts: Vec<u16>,
@@ -23,13 +28,16 @@ pub struct Pool {
 
 impl Pool {
     /// A few accounts; contributions, bills or payments, which need no earlier
-    /// entry, and any other kinds; amounts of all sizes or, for sums above 32
-    /// bits, large ones.
+    /// entry, and any other kinds, with the guarantees that they need; amounts
+    /// of all sizes or, for sums above 32 bits, large ones.
     pub fn new(random: &mut Random) -> Pool {
         let count = 1 + random.below(4);
         let accounts = (0..count).map(|_| any_account(random)).collect();
         let mut kinds = vec![CONTRIBUTION, random.pick(&[BILL, PAYMENT])];
-        kinds.extend((0..6).map(|_| random.within(CONTRIBUTION..=LAST_KIND)));
+        kinds.extend((0..10).map(|_| random.within(CONTRIBUTION..=LAST_KIND)));
+        if kinds.contains(&REDUCTION) || kinds.contains(&RETENTION) {
+            kinds.push(GUARANTEE);
+        }
         Pool {
             accounts,
             kinds,
@@ -54,7 +62,7 @@ fn any_account(random: &mut Random) -> u16 {
 pub fn offered(random: &mut Random, pool: &Pool, history: &History) -> Raw {
     let refusal = match random.below(2) {
         0 => 0,
-        _ => random.within(1..=16),
+        _ => random.pick(&REFUSALS),
     };
     aimed(random, pool, history, refusal)
 }
@@ -79,7 +87,7 @@ pub fn entry(random: &mut Random, pool: &Pool, history: &History) -> Raw {
     let account = random.pick(&pool.accounts);
     let earlier = earlier(random, history, kind, account);
     let day = match earlier {
-        Some(earlier) => day_from(random, kind, earlier.day),
+        Some(earlier) => day_from(random, kind, counted_from(history, kind, earlier)),
         None => any_day(random),
     };
     let mut raw = Raw {
@@ -99,16 +107,21 @@ pub fn entry(random: &mut Random, pool: &Pool, history: &History) -> Raw {
 }
 
 fn needs_name(kind: u8) -> bool {
-    matches!(kind, ADDED_CUSTOMER | EXPIRY | CORRECTION)
+    matches!(
+        kind,
+        ADDED_CUSTOMER | EXPIRY | CORRECTION | REDUCTION | RETENTION
+    )
 }
 
 /// The entry that a new one of this kind is about: mostly one that it may
-/// name or return, sometimes any of the book.
+/// name or return, or near which a payment counts, sometimes any of the book.
 fn earlier(random: &mut Random, history: &History, kind: u8, account: u16) -> Option<Raw> {
     let kinds: &[u8] = match kind {
         ADDED_CUSTOMER | EXPIRY => &[CONTRIBUTION],
         CORRECTION => &[BILL, PAYMENT],
         DEPOSIT_RETURN => &[DEPOSIT],
+        REDUCTION | RETENTION => &[GUARANTEE],
+        PAYMENT => &[GUARANTEE, REDUCTION],
         _ => return None,
     };
     let any = random.one_in(16);
@@ -117,11 +130,27 @@ fn earlier(random: &mut Random, history: &History, kind: u8, account: u16) -> Op
     let newest = fitting.len().checked_sub(1)?;
     let place = match kind {
         DEPOSIT_RETURN => newest,
+        // The others are closed.
+        REDUCTION | RETENTION if !random.one_in(8) => newest,
         // Often the same, so that one contribution gets many customers.
         _ if random.one_in(2) => 0,
         _ => random.below(fitting.len()),
     };
     Some(*fitting[place])
+}
+
+/// The day from which a new entry of this kind is dated: that of the earlier
+/// entry or, in a reduction, of the guarantee's last one.
+fn counted_from(history: &History, kind: u8, earlier: Raw) -> u16 {
+    let reduces = |raw: &&Raw| {
+        let named = (raw.named_node, raw.named_serial);
+        raw.kind == REDUCTION && named == (earlier.node, earlier.serial)
+    };
+    let mut newest_first = history.entries().iter().rev();
+    match kind {
+        REDUCTION => newest_first.find(reduces).unwrap_or(&earlier).day,
+        _ => earlier.day,
+    }
 }
 
 fn any_day(random: &mut Random) -> u16 {
@@ -134,16 +163,21 @@ fn any_day(random: &mut Random) -> u16 {
 
 /// A day before or after that of the earlier entry.
 fn day_from(random: &mut Random, kind: u8, earlier: u16) -> u16 {
+    let year = REDUCTION_INTERVAL;
     let edges = match kind {
         DEPOSIT_RETURN => [0, 1, HALF_DAYS, 3 * HALF_DAYS, 5 * HALF_DAYS],
+        PAYMENT | REDUCTION => [0, 1, year - 1, year, year + 1],
         _ => [0, 1, REFUND_PERIOD - 1, REFUND_PERIOD, REFUND_PERIOD + 1],
     };
     let day = match random.below(8) {
         0 => return random.within(0..=earlier),
         1 => random.within(earlier..=LAST_DAY),
         2 | 3 => earlier + random.pick(&edges),
-        _ if kind == EXPIRY => earlier + REFUND_PERIOD + random.within(0..=REFUND_PERIOD),
-        _ => earlier + random.within(0..=REFUND_PERIOD - 1),
+        _ => match kind {
+            EXPIRY | RETENTION => earlier + REFUND_PERIOD + random.within(0..=REFUND_PERIOD),
+            PAYMENT | REDUCTION => earlier + random.within(0..=2 * year),
+            _ => earlier + random.within(0..=REFUND_PERIOD - 1),
+        },
     };
     day.min(LAST_DAY)
 }
@@ -170,7 +204,7 @@ fn fields(random: &mut Random, pool: &Pool, kind: u8, earlier: Option<Raw>) -> R
             let period = random.within(1..=MAX_PERIOD);
             (amount, period, days_served(random, period))
         }
-        PAYMENT => (amount, 0, 0),
+        PAYMENT | GUARANTEE => (amount, 0, 0),
         DEPOSIT if random.one_in(4) => (HALF_DEPOSIT * odd(random), HALF_RATE, 0),
         DEPOSIT => (amount, random.sized(MAX_RATE + 1) - 1, 0),
         CORRECTION => (corrected_amount(random, amount, earlier), 0, 0),

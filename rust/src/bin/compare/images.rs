@@ -1,6 +1,6 @@
 //! Damaged images.
 
-use crate::entries::{self, Pool};
+use crate::entries::{self, Pool, REFUSALS};
 use crate::history::History;
 use crate::random::Random;
 use contribution_book::plain::{write_record, ENTRIES, LONGEST_IMAGE, RECORD};
@@ -90,15 +90,15 @@ fn other_count(random: &mut Random, mut image: Vec<u8>) -> Vec<u8> {
 }
 
 /// An entry made for the history up to its place, where it may be refused by
-/// any of 1 to 16; with the next index that it would get. The records after
-/// it stay or are left out.
+/// any number of a posting, more often by one that few entries meet; with the
+/// next index that it would get. The records after it stay or are left out.
 fn other_entry(random: &mut Random, pool: &Pool, history: &History) -> Vec<u8> {
     let count = history.entries().len();
     let place = random.below((count + 1).min(ENTRIES));
     let before = history.first(place);
     let refusal = match random.below(2) {
-        0 => random.within(1..=16),
-        _ => random.within(10..=16),
+        0 => random.pick(&REFUSALS),
+        _ => random.pick(&[11, 12, 13, 14, 15, 16, 25, 26]),
     };
     let raw = entries::aimed(random, pool, &before, refusal);
     let mut record = [0; RECORD];

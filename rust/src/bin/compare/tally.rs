@@ -12,19 +12,19 @@ const LEAST: u64 = 100;
 /// How many calls have to be compared.
 const LEAST_CALLS: u64 = 100_000;
 
-/// Document 01's refusal numbers, with 0 for accepted.
-const NUMBERS: u8 = 23;
+/// Refusal numbers are below this; 0 is for accepted.
+const NUMBERS: u8 = 27;
 
 /// Whether a refusal number can be met.
 type Possible = fn(u8) -> bool;
 
+const OF_ENTRIES: Possible = |number| matches!(number, 0..=16 | 24..=26);
 /// By an image. 7 can't: 17 comes before it.
-const OF_IMAGES: Possible = |number| number <= 20 && number != 7;
-const OF_ENTRIES: Possible = |number| number <= 16;
+const OF_IMAGES: Possible = |number| matches!(number, 0..=6 | 8..=20 | 24..=26);
 /// By each kind of call on an accepted image.
 const OF_CALLS: [Possible; KINDS.len()] = [
     |number| number == 0,
-    |number| number <= 17 || number == 21,
+    |number| OF_ENTRIES(number) || matches!(number, 17 | 21),
     |number| matches!(number, 0 | 17 | 21 | 22),
     |number| matches!(number, 0 | 3),
     |number| matches!(number, 0 | 2 | 3 | 8),
@@ -40,6 +40,9 @@ const ENTRY_KINDS: [&str; LAST_KIND as usize + 1] = [
     "deposit return",
     "expiry",
     "correction",
+    "guarantee",
+    "reduction",
+    "retention",
 ];
 
 /// Accepted images by their number of entries.
@@ -134,7 +137,7 @@ impl Tally {
     /// Counts the entries that an accepted image was offered.
     fn count_entries(&mut self, request: &Request, refusal: u8) {
         match request {
-            Request::Post { entry, .. } if refusal < 17 => {
+            Request::Post { entry, .. } if OF_ENTRIES(refusal) => {
                 self.count_entry(entry.bytes(), refusal);
             }
             Request::CarryOver { run, results, .. } if refusal == 0 => {

@@ -5,6 +5,7 @@ use crate::call::{Answer, Call, Request};
 use crate::difference::{compare, Difference};
 use crate::expected::expected;
 use crate::tally::Tally;
+use contribution_book::plain::{REDUCTION, RETENTION};
 
 /// How many lists are compared where no difference is found before.
 const LISTS: u64 = 1_000;
@@ -12,7 +13,7 @@ const LISTS: u64 = 1_000;
 /// What a library does otherwise than the plain book, after it.
 type Slip = fn(&mut Call, &mut Answer);
 
-const ANSWER_SLIPS: [(&str, Slip); 12] = [
+const ANSWER_SLIPS: [(&str, Slip); 15] = [
     ("a full image", |_, answer| {
         if let Answer::Checked(given) = answer {
             given.entries = given.entries.min(1_023);
@@ -73,7 +74,27 @@ const ANSWER_SLIPS: [(&str, Slip); 12] = [
             given.closed = false;
         }
     }),
+    ("what a reduction settles", |call, answer| match answer {
+        Answer::Posted(given) if posts(call, REDUCTION) => given.settled = 0,
+        _ => {}
+    }),
+    ("a reduction's rest", |call, answer| match answer {
+        Answer::Posted(given) if posts(call, REDUCTION) => given.paid_out = 0,
+        _ => {}
+    }),
+    ("what a retention retains", |call, answer| match answer {
+        Answer::Posted(given) if posts(call, RETENTION) => given.retained = 0,
+        _ => {}
+    }),
 ];
+
+/// Whether the call posts an entry of this kind.
+fn posts(call: &Call, kind: u8) -> bool {
+    match &call.request {
+        Request::Post { entry, .. } => entry.bytes().first() == Some(&kind),
+        _ => false,
+    }
+}
 
 const BUFFER_SLIPS: [(&str, Slip); 5] = [
     ("past the image written", |call, answer| {
@@ -143,7 +164,7 @@ fn the_plain_book_differs_in_nothing_from_itself() {
 /// In this list both nodes are offered serials near the last one early on.
 #[test]
 fn a_list_begins_where_serials_are_few() {
-    let list = 8_850_503_138_479_056_310;
+    let list = 10_899_714_097_704_014_291;
     assert!(compare(list, plain, &mut Tally::new()).is_ok());
 }
 

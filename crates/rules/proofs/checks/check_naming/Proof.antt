@@ -9,30 +9,36 @@ returns c =
     let c₈ = c .before .before .before .before .before .before .before .before in
     let c₁₆ = c₈ .before .before .before .before .before .before .before .before in
     let c₂₄ = c₁₆ .before .before .before .before .before .before .before .before in
+    let c₃₂ = c₂₄ .before .before .before .before .before .before .before .before in
     simp (
-      c .refuse-if8 .ensures,
-      c .before .refuse-if7 .ensures,
-      c .before .before .both5 .ensures,
-      c .before .before .before .before .before .refuse-if6 .ensures,
-      c .before .before .before .before .before .before .both4 .ensures,
-      c .before .before .before .before .before .before .before .refuse-if5 .ensures,
-      c₈ .both3 .ensures,
-      c₈ .before .is2 .ensures,
-      c₈ .before .before .refuse-if4 .ensures,
-      c₈ .before .before .before .both2 .ensures,
-      c₈ .before .before .before .before .refuse-if3 .ensures,
-      c₈ .before .before .before .before .before .refuse-if2 .ensures,
-      c₁₆ .refuse-if .ensures,
-      c₁₆ .before .misnames .ensures,
-      c₁₆ .before .before .both .ensures,
-      c₁₆ .before .before .before .before .before .is .ensures,
-      c₁₆ .before .before .before .before .before .before .period-end .ensures,
-      c₂₄ .particulars .ensures,
+      c .refuse-if10 .ensures,
+      c .before .refuse-if9 .ensures,
+      c .before .before .both7 .ensures,
+      c .before .before .before .before .before .refuse-if8 .ensures,
+      c .before .before .before .before .before .before .both6 .ensures,
+      c .before .before .before .before .before .before .before .refuse-if7 .ensures,
+      c₈ .both5 .ensures,
+      c₈ .before .guarantee-end .ensures,
+      c₈ .before .before .is4 .ensures,
+      c₈ .before .before .before .refuse-if6 .ensures,
+      c₈ .before .before .before .before .both4 .ensures,
+      c₈ .before .before .before .before .before .next-reduction .ensures,
+      c₈ .before .before .before .before .before .before .is3 .ensures,
+      c₈ .before .before .before .before .before .before .before .refuse-if5 .ensures,
+      c₁₆ .both3 .ensures,
+      c₁₆ .before .is2 .ensures,
+      c₁₆ .before .before .refuse-if4 .ensures,
+      c₁₆ .before .before .before .both2 .ensures,
+      c₁₆ .before .before .before .before .refuse-if3 .ensures,
+      c₁₆ .before .before .before .before .before .refuse-if2 .ensures,
+      c₂₄ .refuse-if .ensures,
+      c₂₄ .before .misnames .ensures,
+      c₂₄ .before .before .both .ensures,
+      c₂₄ .before .before .before .before .before .is .ensures,
+      c₂₄ .before .before .before .before .before .before .period-end .ensures,
+      c₃₂ .particulars .ensures,
     )
 
 pub check-naming-spec : {M : Type 1} → statement M
 check-naming-spec =
-    tie.close (tie.spec (λ c κs. search needs) (λ c. search needs) (λ c κs. search needs) (λ c κs. search needs) (λ c κs. search needs)
-    (λ c κs. search needs) (λ c κs. search needs) (λ c κs. search needs) (λ c κs. search needs) (λ c κs. search needs) (λ c κs. search needs)
-    (λ c κs. search needs) (λ c κs. search needs) (λ c κs. search needs) (λ c κs. search needs) (λ c κs. search needs) (λ c κs. search needs)
-    (λ c κs. search needs) (λ c κs. search needs) returns)
+    tie.close (tie.spec (λ c κs. search needs) (λ c. search needs) (λ c κs. search needs) (λ c κs. search needs) (λ c κs. search needs) (λ c κs. search needs) (λ c κs. search needs) (λ c κs. search needs) (λ c κs. search needs) (λ c κs. search needs) (λ c κs. search needs) (λ c κs. search needs) (λ c κs. search needs) (λ c κs. search needs) (λ c κs. search needs) (λ c κs. search needs) (λ c κs. search needs) (λ c κs. search needs) (λ c κs. search needs) (λ c κs. search needs) (λ c κs. search needs) (λ c κs. search needs) (λ c κs. search needs) (λ c κs. search needs) (λ c κs. search needs) (λ c κs. search needs) (λ c κs. search needs) returns)

@@ -39,9 +39,22 @@ returns-9 : tie.Need-returns-9
 unfolding limitsOf
 returns-9 c = rw (c .before .enum-told9 .given .1) (c .row9 .ensures)
 
+returns-10 : tie.Need-returns-10
+unfolding limitsOf
+returns-10 c = rw (c .before .enum-told10 .given .1) (c .row10 .ensures)
+
+returns-11 : tie.Need-returns-11
+unfolding limitsOf
+returns-11 c = rw (c .before .enum-told11 .given .1) (c .row11 .ensures)
+
+returns-12 : tie.Need-returns-12
+unfolding limitsOf
+returns-12 c = rw (c .before .enum-told12 .given .1) (c .row12 .ensures)
+
 pub limits-spec : {M : Type 1} → statement M
 limits-spec =
     tie.close (tie.spec (λ c. search needs) (λ c κs. search needs) (λ c. search needs) (λ c κs. search needs) (λ c. search needs)
     (λ c κs. search needs) (λ c. search needs) (λ c κs. search needs) (λ c. search needs) (λ c κs. search needs) (λ c. search needs)
     (λ c κs. search needs) (λ c. search needs) (λ c κs. search needs) (λ c. search needs) (λ c κs. search needs) (λ c. search needs)
-    (λ c κs. search needs) returns returns-2 returns-3 returns-4 returns-5 returns-6 returns-7 returns-8 returns-9)
+    (λ c κs. search needs) (λ c. search needs) (λ c κs. search needs) (λ c. search needs) (λ c κs. search needs) (λ c. search needs)
+    (λ c κs. search needs) returns returns-2 returns-3 returns-4 returns-5 returns-6 returns-7 returns-8 returns-9 returns-10 returns-11 returns-12)

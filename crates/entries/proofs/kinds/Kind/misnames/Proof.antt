@@ -10,9 +10,17 @@ returns c = simp (c .either .ensures, c .before .is3 .ensures, c .before .before
 
 returns-2 : tie.Need-returns-2
 unfolding misnamesOf
-returns-2 c = simp (c .is4 .ensures, sym (c .before .before .is .ensures) ∙ c .before .if1 .left)
+returns-2 c =
+    let c₂ = c .before .before in
+    simp (c .is4 .ensures, sym (c₂ .names-guarantee .ensures) ∙ c .before .if2 .taken, sym (c₂ .before .before .is .ensures) ∙ c₂ .before .if1 .left)
+
+returns-3 : tie.Need-returns-3
+unfolding misnamesOf
+returns-3 c =
+    let c₂ = c .before .before in
+    simp (c .is5 .ensures, sym (c₂ .names-guarantee .ensures) ∙ c .before .if2 .left, sym (c₂ .before .before .is .ensures) ∙ c₂ .before .if1 .left)
 
 pub misnames-spec : {M : Type 1} → statement M
 misnames-spec =
     tie.close (tie.spec (λ c κs. search needs) (λ c κs. search needs) (λ c κs. search needs) (λ c κs. search needs) returns (λ c κs. search needs)
-    returns-2)
+    (λ c κs. search needs) returns-2 (λ c κs. search needs) returns-3)

@@ -51,9 +51,21 @@ returns-8 c = search needs
 
 returns-9 : tie.Need-returns-9
 unfolding kindOf
-returns-9 c = let r = c .match .rest in
-    past _ (λ h. climb (r .1) (climb (r .0 .1) (climb (r .0 .0 .1) (climb (r .0 .0 .0 .1)
-    (climb (r .0 .0 .0 .0 .1) (climb (r .0 .0 .0 .0 .0 .1) (climb (r .0 .0 .0 .0 .0 .0 .1) (climb (r .0 .0 .0 .0 .0 .0 .0 .1) h))))))))
+returns-9 c = search needs
+
+returns-10 : tie.Need-returns-10
+unfolding kindOf
+returns-10 c = search needs
+
+returns-11 : tie.Need-returns-11
+unfolding kindOf
+returns-11 c = search needs
+
+returns-12 : tie.Need-returns-12
+unfolding kindOf
+returns-12 c = let r = c .match .rest in
+    past _ (λ h. climb (r .1) (climb (r .0 .1) (climb (r .0 .0 .1) (climb (r .0 .0 .0 .1) (climb (r .0 .0 .0 .0 .1) (climb (r .0 .0 .0 .0 .0 .1) (climb (r .0 .0 .0 .0 .0 .0 .1) (climb (r .0 .0 .0 .0 .0 .0 .0 .1) (climb (r .0 .0 .0 .0 .0 .0 .0 .0 .1) (climb (r .0 .0 .0 .0 .0 .0 .0 .0 .0 .1) (climb (r .0 .0 .0 .0 .0 .0 .0 .0 .0 .0 .1) h)))))))))))
 
 pub of-spec : {M : Type 1} → statement M
-of-spec = tie.close (tie.spec returns returns-2 returns-3 returns-4 returns-5 returns-6 returns-7 returns-8 returns-9)
+of-spec =
+    tie.close (tie.spec returns returns-2 returns-3 returns-4 returns-5 returns-6 returns-7 returns-8 returns-9 returns-10 returns-11 returns-12)
