@@ -35,6 +35,9 @@ extern "C" {
 #define CONTRIBUTION_BOOK_RECORD 24
 #define CONTRIBUTION_BOOK_LONGEST_IMAGE 24600
 
+/* The bytes of a page: 66 lines of 80 columns, each closed by a newline. */
+#define CONTRIBUTION_BOOK_PAGE 5346
+
 /* The image of a fresh book, as the initializer of an array of CONTRIBUTION_BOOK_RECORD bytes. */
 #define CONTRIBUTION_BOOK_FRESH {'C', 'H', 'B', '1'}
 
@@ -146,6 +149,30 @@ struct contribution_book_contribution_given {
 struct contribution_book_contribution_given contribution_book_contribution(const uint8_t *image, size_t image_length,
                                                                            uint16_t account, uint8_t node,
                                                                            uint32_t serial);
+
+struct contribution_book_page_given {
+    uint8_t refusal;
+    uint16_t record;
+    size_t bytes; /* the length of the page written */
+};
+
+/*
+ * The statement page of an account, as text: that of document 02's request 1.
+ * Takes    the image and the account.
+ * Gives    the length of the page, CONTRIBUTION_BOOK_PAGE.
+ * Refuses  the image; then by 3 an account that is not 1 to 128; then by 23 an output that is shorter than the page.
+ * Leaves   the page at the start of the output, which must not overlap the image.
+ *
+ * Line 1         the account, to column 3
+ * Lines 3 to 6   arrears, credit, deposit held and held, to column 80; they are the statement's
+ * Lines 8 to 65  the account's newest 58 entries, newest first, a line each: number to column 4, day to column 10, kind to
+ *                column 13, amount to column 80: the standing amount of a bill or payment, else the posted one, 0.00 where
+ *                the kind has none
+ * Amounts are dollars, at least one digit, a point and two digits of cents. Account, number, day and kind have no leading
+ * zeros. Every other position is a space; lines 2, 7 and 66, and those that no entry takes, are blank.
+ */
+struct contribution_book_page_given contribution_book_page(const uint8_t *image, size_t image_length, uint16_t account,
+                                                           uint8_t *output, size_t output_length);
 
 #ifdef __cplusplus
 }

@@ -1,5 +1,5 @@
 /*
- * A host posts a payment to a fresh book, carries over two entries of the other node, and reads a statement.
+ * A host posts a payment to a fresh book, carries over two entries of the other node, and reads a statement and a page.
  * It writes what the book gives, and exits with 1 where a call is refused.
  */
 #include <inttypes.h>
@@ -35,6 +35,18 @@ static int refused(const char *call, uint8_t refusal, uint16_t record) {
     return 1;
 }
 
+/* Writes the first 9 lines of account 5's page: the account, the four figures and two entries. */
+static int write_page(const uint8_t *image, size_t image_length) {
+    enum { LINE = 80 + 1, LINES = 9 };
+    static uint8_t page[CONTRIBUTION_BOOK_PAGE];
+    struct contribution_book_page_given given = contribution_book_page(image, image_length, 5, page, sizeof page);
+    if (given.refusal != 0) {
+        return refused("page", given.refusal, given.record);
+    }
+    fwrite(page, LINE, LINES, stdout);
+    return 0;
+}
+
 int main(void) {
     static const uint8_t fresh[CONTRIBUTION_BOOK_RECORD] = CONTRIBUTION_BOOK_FRESH;
     static uint8_t first[CONTRIBUTION_BOOK_LONGEST_IMAGE], second[CONTRIBUTION_BOOK_LONGEST_IMAGE];
@@ -66,5 +78,5 @@ int main(void) {
     }
     printf("arrears %" PRIu64 ", credit %" PRIu64 ", held %" PRIu64 ", payments %" PRIu64 "\n", statement.arrears,
            statement.credit, statement.held, statement.payments);
-    return 0;
+    return write_page(second, carried.bytes);
 }

@@ -66,6 +66,13 @@ impl Book {
         (self, reply)
     }
 
+    /// Writes the account's page; gives refusal 0 and its length, or 3 or 23.
+    #[inline(never)]
+    pub fn page(self, account: u16, buffer: &mut [u8]) -> (Book, u8, usize) {
+        let (refusal, length) = self.plain.page(account, buffer);
+        (self, refusal, length)
+    }
+
     /// Writes the image; gives refusal 0 and its length, or 21.
     #[inline(never)]
     pub fn save(self, buffer: &mut [u8]) -> (Book, u8, usize) {

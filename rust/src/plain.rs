@@ -6,6 +6,7 @@
 
 mod check;
 mod image;
+mod page;
 mod posting;
 mod query;
 
@@ -21,6 +22,10 @@ pub const ENTRIES: usize = 1024;
 pub const RECORD: usize = 24;
 /// Bytes of the longest image, a full book's.
 pub const LONGEST_IMAGE: usize = RECORD * (ENTRIES + 1);
+/// Columns of a page.
+const COLUMNS: usize = 80;
+/// Bytes of a page: 66 lines of these columns, each closed by a newline.
+pub const PAGE: usize = 66 * (COLUMNS + 1);
 
 /// The last day, 2099-12-31.
 pub const LAST_DAY: u16 = 36_524;

@@ -6,6 +6,8 @@
 pub const RECORD: usize = 24;
 /// Bytes of the longest image: the header and 1,024 records.
 pub const LONGEST_IMAGE: usize = 24_600;
+/// Bytes of a page: 66 lines of 80 columns, each closed by a newline.
+pub const PAGE: usize = 5_346;
 /// The image of a fresh book.
 pub const FRESH: [u8; RECORD] = *b"CHB1\0\0\0\0\0\0\0\0\0\0\0\0\0\0\0\0\0\0\0\0";
 
@@ -72,6 +74,15 @@ pub struct ContributionGiven {
     pub retained: u64,
 }
 
+/// What `page` gives.
+#[repr(C)]
+#[derive(Clone, Copy, Debug, Default, PartialEq, Eq)]
+pub struct PageGiven {
+    pub refusal: u8,
+    pub record: u16,
+    pub bytes: usize,
+}
+
 extern "C" {
     fn contribution_book_check(image: *const u8, image_length: usize) -> CheckGiven;
 
@@ -109,6 +120,14 @@ extern "C" {
         node: u8,
         serial: u32,
     ) -> ContributionGiven;
+
+    fn contribution_book_page(
+        image: *const u8,
+        image_length: usize,
+        account: u16,
+        output: *mut u8,
+        output_length: usize,
+    ) -> PageGiven;
 }
 
 /// Checks an image.
@@ -164,4 +183,18 @@ pub fn statement(image: &[u8], account: u16, allowance: u64) -> StatementGiven {
 pub fn contribution(image: &[u8], account: u16, node: u8, serial: u32) -> ContributionGiven {
     // SAFETY: as in `check`.
     unsafe { contribution_book_contribution(image.as_ptr(), image.len(), account, node, serial) }
+}
+
+/// The statement page of an account; it goes to the start of the output.
+pub fn page(image: &[u8], account: u16, output: &mut [u8]) -> PageGiven {
+    // SAFETY: as in `post`.
+    unsafe {
+        contribution_book_page(
+            image.as_ptr(),
+            image.len(),
+            account,
+            output.as_mut_ptr(),
+            output.len(),
+        )
+    }
 }

@@ -145,3 +145,20 @@ fn contribution_queries() {
     }
     saved(&plain, by_value);
 }
+
+#[test]
+fn pages() {
+    let (plain, mut by_value) = posted(&entries(1));
+    for account in 0..4 {
+        for length in [PAGE - 1, PAGE, PAGE + 1] {
+            let mut page = vec![0xEE; length];
+            let mut same = page.clone();
+            let reply = plain.page(account, &mut page);
+            let (next, refusal, bytes) = by_value.page(account, &mut same);
+            assert_eq!(reply, (refusal, bytes));
+            assert_eq!(page, same);
+            by_value = next;
+        }
+    }
+    saved(&plain, by_value);
+}

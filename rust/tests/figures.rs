@@ -1082,3 +1082,298 @@ fn the_sum_of_an_account() {
     let raw = on(1_826, retention(14, 2));
     assert_eq!(accepted(&mut book, raw), [0, 0, rest, 0]);
 }
+
+/// 80 spaces.
+const BLANK: &str =
+    "                                                                                ";
+
+/// The account's page as its 66 lines of 80 columns.
+fn page(book: &Book, account: u16) -> Vec<String> {
+    let mut bytes = vec![0xEE; 5_346];
+    assert_eq!(book.page(account, &mut bytes), (0, 5_346));
+    let text = String::from_utf8(bytes).expect("the page is text");
+    let lines: Vec<String> = text.split_terminator('\n').map(String::from).collect();
+    assert_eq!(lines.len(), 66);
+    assert!(text.ends_with('\n') && lines.iter().all(|line| line.len() == 80));
+    lines
+}
+
+/// The page's first lines are these, the others blank.
+fn shows(book: &Book, account: u16, expected: &[&str]) {
+    let lines = page(book, account);
+    let (first, others) = lines.split_at(expected.len());
+    assert_eq!(first, expected);
+    assert!(others.iter().all(|line| line == BLANK));
+}
+
+#[test]
+fn pages_without_entries() {
+    let book = payments(1);
+    let accounts = [
+        "  1                                                                             ",
+        "128                                                                             ",
+    ];
+    for (account, first) in [1, 128].into_iter().zip(accounts) {
+        let zero =
+            "                                                                            0.00";
+        shows(&book, account, &[first, BLANK, zero, zero, zero, zero]);
+    }
+}
+
+#[test]
+fn pages_of_the_first_and_last_account() {
+    let book = book(&[
+        Raw {
+            account: 1,
+            ..deposit(1, 30_000, 520)
+        },
+        Raw {
+            account: 128,
+            ..on(36_524, contribution(2, 300_000, 200, 1))
+        },
+    ]);
+    let first = [
+        "  1                                                                             ",
+        "                                                                                ",
+        "                                                                            0.00",
+        "                                                                            0.00",
+        "                                                                          300.00",
+        "                                                                            0.00",
+        "                                                                                ",
+        "   1     0  5                                                             300.00",
+    ];
+    let last = [
+        "128                                                                             ",
+        "                                                                                ",
+        "                                                                            0.00",
+        "                                                                            0.00",
+        "                                                                            0.00",
+        "                                                                         3000.00",
+        "                                                                                ",
+        "   2 36524  1                                                            3000.00",
+    ];
+    shows(&book, 1, &first);
+    shows(&book, 128, &last);
+}
+
+#[test]
+fn a_page_has_the_newest_58_entries() {
+    let lines = page(&payments(58), 5);
+    let newest = "  58     0  4                                                               0.01";
+    let last = "   1     0  4                                                               0.01";
+    assert_eq!([&lines[7], &lines[64], &lines[65]], [newest, last, BLANK]);
+
+    let lines = page(&payments(59), 5);
+    let newest = "  59     0  4                                                               0.01";
+    let last = "   2     0  4                                                               0.01";
+    assert_eq!([&lines[7], &lines[64], &lines[65]], [newest, last, BLANK]);
+    // The figures are of all entries.
+    let credit = "                                                                            0.59";
+    assert_eq!(lines[3], credit);
+
+    let lines = page(&payments(1_024), 5);
+    let newest = "1024     0  4                                                               0.01";
+    let last = " 967     0  4                                                               0.01";
+    assert_eq!([&lines[7], &lines[64], &lines[65]], [newest, last, BLANK]);
+    let numbers = lines[7..65].iter().map(|line| line[..4].trim().parse());
+    assert!(numbers.eq((967..=1_024).rev().map(Ok)));
+}
+
+#[test]
+fn a_page_has_the_entries_of_its_account_alone() {
+    let mut book = book(&[on(9, payment(1, 1))]);
+    for serial in 2..=101 {
+        let raw = on(10, bill(serial, 700, 1, 1));
+        accepted(&mut book, Raw { account: 6, ..raw });
+    }
+    accepted(&mut book, on(12_345, bill(102, 31, 1, 1)));
+    let expected = [
+        "  5                                                                             ",
+        "                                                                                ",
+        "                                                                            0.30",
+        "                                                                            0.00",
+        "                                                                            0.00",
+        "                                                                            0.00",
+        "                                                                                ",
+        " 102 12345  3                                                               0.31",
+        "   1     9  4                                                               0.01",
+    ];
+    shows(&book, 5, &expected);
+}
+
+#[test]
+fn amounts_on_a_page() {
+    let book = book(&[
+        bill(1, 100, 1, 0),
+        payment(2, 5),
+        payment(3, 99),
+        payment(4, 100),
+        payment(5, 101),
+        payment(6, 123_456),
+        payment(7, 100_000_000),
+    ]);
+    let expected = [
+        "  5                                                                             ",
+        "                                                                                ",
+        "                                                                            0.00",
+        "                                                                      1001237.61",
+        "                                                                            0.00",
+        "                                                                            0.00",
+        "                                                                                ",
+        "   7     0  4                                                         1000000.00",
+        "   6     0  4                                                            1234.56",
+        "   5     0  4                                                               1.01",
+        "   4     0  4                                                               1.00",
+        "   3     0  4                                                               0.99",
+        "   2     0  4                                                               0.05",
+        "   1     0  3                                                               0.00",
+    ];
+    shows(&book, 5, &expected);
+}
+
+#[test]
+fn figures_of_a_page_above_32_bits() {
+    let mut book = book(&[deposit(1, 7, 0)]);
+    for serial in 2..=44 {
+        accepted(&mut book, bill(serial, 100_000_000, 1, 1));
+    }
+    for serial in 45..=88 {
+        accepted(&mut book, contribution(serial, 99_999_999, 1, 1));
+    }
+    let figures = [
+        "                                                                     43000000.00",
+        "                                                                            0.00",
+        "                                                                            0.07",
+        "                                                                     43999999.56",
+    ];
+    assert_eq!(page(&book, 5)[2..6], figures);
+
+    for serial in 89..=131 {
+        accepted(&mut book, payment(serial, 100_000_000));
+    }
+    for serial in 132..=174 {
+        accepted(&mut book, payment(serial, 99_999_998));
+    }
+    let figures = [
+        "                                                                            0.00",
+        "                                                                     42999999.14",
+        "                                                                            0.07",
+        "                                                                     43999999.56",
+    ];
+    assert_eq!(page(&book, 5)[2..6], figures);
+}
+
+#[test]
+fn standing_amounts_on_a_page() {
+    let book = book(&[
+        on(10, bill(1, 10_000, 30, 7)),
+        on(11, payment(2, 500)),
+        on(12, bill(3, 10_000, 30, 7)),
+        on(13, payment(4, 200)),
+        on(14, correction(5, 1, 2_000)),
+        on(15, correction(6, 2, 0)),
+    ]);
+    // The bill billed 2,333 and stands at 2,000; the payment stands at 0.
+    let expected = [
+        "  5                                                                             ",
+        "                                                                                ",
+        "                                                                           41.33",
+        "                                                                            0.00",
+        "                                                                            0.00",
+        "                                                                            0.00",
+        "                                                                                ",
+        "   6    15  8                                                               0.00",
+        "   5    14  8                                                              20.00",
+        "   4    13  4                                                               2.00",
+        "   3    12  3                                                              23.33",
+        "   2    11  4                                                               0.00",
+        "   1    10  3                                                              20.00",
+    ];
+    shows(&book, 5, &expected);
+}
+
+#[test]
+fn a_page_of_every_kind() {
+    let mut book = book(&of_all_kinds());
+    accepted(&mut book, on(1_826, retention(14, 2)));
+    let expected = [
+        "  5                                                                             ",
+        "                                                                                ",
+        "                                                                            0.50",
+        "                                                                            0.00",
+        "                                                                           50.00",
+        "                                                                            0.00",
+        "                                                                                ",
+        "  14  1826 11                                                               0.00",
+        "  13  1826  7                                                               0.00",
+        "  12   400  3                                                               0.50",
+        "  11   400  5                                                              50.00",
+        "  10   365  6                                                               0.00",
+        "   9   365 10                                                               0.00",
+        "   8   301  3                                                               7.00",
+        "   7   300  2                                                               0.00",
+        "   6   200  3                                                             120.00",
+        "   5   101  8                                                              90.00",
+        "   4   100  4                                                              90.00",
+        "   3     0  5                                                             300.00",
+        "   2     0  9                                                             200.00",
+        "   1     0  1                                                             600.00",
+    ];
+    shows(&book, 5, &expected);
+}
+
+#[test]
+fn held_on_a_page_is_that_of_contributions() {
+    let book = book(&[
+        contribution(1, 300_000, 200, 1),
+        contribution(2, 50, 1, 1),
+        guarantee(3, 70_000),
+        on(5, added(4, 1, 100)),
+    ]);
+    let expected = [
+        "  5                                                                             ",
+        "                                                                                ",
+        "                                                                            0.00",
+        "                                                                            0.00",
+        "                                                                            0.00",
+        "                                                                         2250.50",
+        "                                                                                ",
+        "   4     5  2                                                               0.00",
+        "   3     0  9                                                             700.00",
+        "   2     0  1                                                               0.50",
+        "   1     0  1                                                            3000.00",
+    ];
+    shows(&book, 5, &expected);
+}
+
+#[test]
+fn refusals_3_and_23_of_pages() {
+    let book = payments(1);
+    let refusals = [
+        (0, 5_346, 3),
+        (129, 5_346, 3),
+        (u16::MAX, 5_346, 3),
+        // 3 comes before 23.
+        (0, 5_345, 3),
+        (129, 0, 3),
+        (1, 0, 23),
+        (5, 5_345, 23),
+        (128, 5_345, 23),
+    ];
+    for (account, length, refusal) in refusals {
+        let mut bytes = vec![0xEE; length];
+        assert_eq!(book.page(account, &mut bytes), (refusal, 0));
+        assert!(bytes.iter().all(|&byte| byte == 0xEE));
+    }
+}
+
+#[test]
+fn a_longer_buffer_keeps_its_further_bytes() {
+    let book = payments(60);
+    let mut exact = [0xEE; 5_346];
+    assert_eq!(book.page(5, &mut exact), (0, 5_346));
+    let mut longer = [0xEE; 5_351];
+    assert_eq!(book.page(5, &mut longer), (0, 5_346));
+    assert_eq!(longer[..5_346], exact);
+    assert_eq!(longer[5_346..], [0xEE; 5]);
+}

@@ -93,3 +93,14 @@ holds-then text more before between buf at next k m =
 
 pub holds-all : (text before buf : List ℕ) (at : ℕ) → Holds text before buf at → buf ≡ text ++ drop at before
 holds-all text before buf at k = sym (take-append-drop at buf) ∙ (rw (k .front, k .rest) refl)
+
+-- a text at a buffer's start
+pub at-start : (text buf after : List ℕ) (n : ℕ) → length text ≤ length buf → written after n ≡ writtenAt text 0 buf →
+    (n ≡ length text) × (after ≡ text ++ drop n buf)
+at-start text buf after n h e =
+    let a = appended text buf after 0 n (omega arith) e in
+    (omega (arith, a .end), sym (take-append-drop n after) ∙ (rw (a .front, a .rest) refl))
+
+-- its length is within the buffer
+pub within : (text buf after : List ℕ) (n : ℕ) → (n ≡ length text) × (after ≡ text ++ drop n buf) → n ≤ length after
+within text buf after n e = rw (e .1, length-append, ← e .0) (omega arith)

@@ -5,6 +5,8 @@ use carry_lent::carry_first;
 use entries::Raw;
 use loads::LoadAnswer;
 use loads::load;
+use pages::PageAnswer;
+use pages::page;
 use queries::contribution_query;
 use queries::statement;
 use saves::SaveAnswer;
@@ -118,6 +120,15 @@ fn query(book: Book, account: u16, node: u8, serial: u32, answer: &mut [u64]) ->
         flag(r.closed),
     ];
     tell(answer, &numbers)
+}
+
+// g: a page into the first bytes of the buffer.
+fn page_into(book: Book, account: u16, size: u64, buffer: &mut [u8], answer: &mut [u64]) -> usize {
+    let n = first(buffer, size as usize);
+    match page(book, account, &mut buffer[..n]) {
+        PageAnswer::Refused(refusal) => tell(answer, &[refusal.number() as u64, 0]),
+        PageAnswer::Length(bytes) => tell(answer, &[0, bytes as u64]),
+    }
 }
 
 // w: a save into the first bytes of the buffer.
@@ -296,6 +307,7 @@ fn read_call(
     match letter {
         b's' => state(book, account, two, answer),
         b'q' => query(book, account, node, serial, answer),
+        b'g' => page_into(book, account, two, buffer, answer),
         b'w' => save_into(book, one, buffer, answer),
         b'x' => set(buffer, numbers, count, answer),
         _ => show(buffer, one, two, answer),

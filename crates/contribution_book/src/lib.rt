@@ -1,6 +1,8 @@
 // The contribution book for hosts in C and Rust: a book goes in and comes out as its image.
 use image_carry::CarryGiven;
 use image_carry::carry_image;
+use image_page::PageGiven;
+use image_page::page_image;
 use image_post::PostingGiven;
 use image_post::post_image;
 use image_read::CheckGiven;
@@ -13,6 +15,7 @@ ghost use mathlib.Core.Path.{_≡_};
 ghost use Rattle.loads.specs.Loads.{loadOf};
 ghost use Rattle.image_read.specs.Checks.{checkGiven};
 ghost use Rattle.image_read.specs.Reads.{statementImage, contributionImage};
+ghost use Rattle.image_page.specs.Pages.{pageImage};
 ghost use Rattle.image_post.specs.Postings.{postImage};
 ghost use Rattle.image_carry.specs.Carries.{carryImage};
 
@@ -72,4 +75,12 @@ pub extern "C" fn contribution_book_contribution(
     ensures { λ r. ⌜ r ≡ contributionImage (loadOf (now (image .entry))) account node serial ⌝ }
 {
     contribution_image(image, account, node, serial)
+}
+
+// The page of an account of an image.
+#[no_mangle]
+pub extern "C" fn contribution_book_page(image: &[u8], account: u16, output: &mut [u8]) -> PageGiven
+    ensures { λ r. ⌜ (record { given = r; output = now (output .exit) }) ≡ pageImage (loadOf (now (image .entry))) account (now (output .entry)) ⌝ }
+{
+    page_image(image, account, output)
 }

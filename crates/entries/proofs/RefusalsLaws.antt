@@ -36,6 +36,7 @@ refusal-above no.ImageCount = omega arith
 refusal-above no.NextIndex = omega arith
 refusal-above no.BufferShort = omega arith
 refusal-above no.ResultsShort = omega arith
+refusal-above no.PageBufferShort = omega arith
 refusal-above no.GuaranteeOpen = omega arith
 refusal-above no.ReductionEarly = omega arith
 refusal-above no.RetentionEarly = omega arith

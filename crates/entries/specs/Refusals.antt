@@ -31,6 +31,7 @@ refusalNumber no.ImageCount = 19
 refusalNumber no.NextIndex = 20
 refusalNumber no.BufferShort = 21
 refusalNumber no.ResultsShort = 22
+refusalNumber no.PageBufferShort = 23
 refusalNumber no.GuaranteeOpen = 24
 refusalNumber no.ReductionEarly = 25
 refusalNumber no.RetentionEarly = 26

@@ -2,7 +2,7 @@
 ghost use mathlib.Core.Path.{_≡_};
 ghost use Rattle.entries.specs.Refusals.{refusalNumber, refuseIf};
 
-// One case for each number that the book gives, 1 to 22 and 24 to 26, in their order.
+// One case for each of the documents' numbers, in their order.
 pub enum Refusal {
     UnknownKind,
     UnknownNode,
@@ -26,6 +26,7 @@ pub enum Refusal {
     NextIndex,
     BufferShort,
     ResultsShort,
+    PageBufferShort,
     GuaranteeOpen,
     ReductionEarly,
     RetentionEarly,
@@ -65,6 +66,7 @@ impl Refusal {
             Refusal::NextIndex => 20,
             Refusal::BufferShort => 21,
             Refusal::ResultsShort => 22,
+            Refusal::PageBufferShort => 23,
             Refusal::GuaranteeOpen => 24,
             Refusal::ReductionEarly => 25,
             Refusal::RetentionEarly => 26,

@@ -66,9 +66,13 @@ standing-small (joins {r} {h} v j) e w =
     fate-cases (λ f. f .standing ≤ large) r h e ih ih ih (omega (arith, accepts h r j .ranges .amount)) ih
 
 -- sums of small numbers are small
+-- a number of two
+pub either-small : (t : Bool) (x y : ℕ) → x ≤ large → y ≤ large → cond t x y ≤ large
+either-small true x y p q = p
+either-small false x y p q = q
+
 pub some-small : (t : Bool) (x : ℕ) → x ≤ large → cond t x 0 ≤ large
-some-small true x l = l
-some-small false x l = omega arith
+some-small t x l = either-small t x 0 l (omega arith)
 
 module _ (f : Reading) (all : History) where
   pub total-small : (a : ℕ) → ((e : Raw) → FieldsInRange e (kindOf (e .kind)) → f (kindOf (e .kind)) e (fate all e) ≤ large) → {h : History} → Valid h →
@@ -94,11 +98,6 @@ pub record Small (n : ℕ) (b : Balance) : Type 0 where
   pub credit : b .credit ≤ large * n
   pub deposit : b .deposit ≤ amountMost
   pub rate : b .rate ≤ rateMost
-
--- a number of two
-either-small : (t : Bool) (x y : ℕ) → x ≤ large → y ≤ large → cond t x y ≤ large
-either-small true x y p q = p
-either-small false x y p q = q
 
 -- no move of an entry in range takes them further
 module _ (r e : Raw) (paid : ℕ) (f : Fate) (b : Balance) (l : Kind) (n : ℕ) (w : Small n b) (m : r .amount ≤ amountMost) where

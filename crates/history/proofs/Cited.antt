@@ -4,8 +4,9 @@ use Prim.Native.Nat.{ℕ, _+_, _-_, _*_, _/_, min, _≤_, _<_}
 use native.Mathlib.Omega.{arith}
 use mathlib.Core.Bool.{true, cond, not, _&&_, true≢false}
 use mathlib.Core.List.{List, [], _∷_, _++_}
-use lib.Seq.{take-all}
-use borrow.Author.Tests.{leb-true}
+use lib.ListN.{length, take, drop}
+use lib.Seq.{take-all, take-at, drop-at}
+use borrow.Author.Tests.{leb-true, le-leb, le-ltb}
 use Rattle.measures.specs.Cents.{most}
 use Rattle.entries.specs.Kinds.{kindOf, sameOf}
 use Rattle.entries.specs.Ranges.{between}
@@ -17,15 +18,18 @@ use Rattle.queries.specs.Chain.{chainAt, totalOf}
 use Rattle.queries.specs.Chain as chains
 use Rattle.queries.specs.Statements.{statementOf}
 use Rattle.queries.specs.declared.statements.StatementReply.{StatementReply}
+use Rattle.pages.specs.Rows.{pageRows, AllLines}
+use Rattle.pages.specs.Pages.{pageOf}
 use Rattle.history.specs.History.{History, accounts, entries, refundPeriod, points, fate, total, amounts, entriesOf, settledBy, paidOutBy, toArrears, refundsPaid, customers, paidBy}
 use Rattle.history.specs.Laws.{In, newest, older, AccountSums, sumsOf, Refunds, Reduces, Once, Each, HasContribution}
-use Rattle.history.specs.Queries.{statementBy, statementIn}
+use Rattle.history.specs.Queries.{statementBy, statementIn, entryLinesIn, pageTextIn, pageIn}
 use Rattle.history.specs.Agreement.{Kept}
 use Rattle.history.specs.Calls.{Call, answersIn, historyOf}
 use Rattle.history.specs.Claim.{bookOf, answersOf, guaranteeHeldOf}
 use Rattle.history.specs.Witness.{calls, answers}
 use Rattle.history.proofs.Tests.{tested}
 use Rattle.history.proofs.Queries.{statement-same}
+use Rattle.history.proofs.Pages.{page-same, pages-formed}
 use Rattle.history.proofs.Claim.{demand3}
 use Rattle.history.proofs.Witness.{witnessed}
 
@@ -72,6 +76,19 @@ module _ (cs : List Call) where
       rw (statement-same kept a n)
       (tested (λ u. let t = statementBy (cond (not u) 3 0) h a n in t .complete ≡ true → Balances (sumsOf h a) t) (between a 1 accounts)
       (λ p e. rw (take-all n (entriesOf h a) (leb-true _ _ e)) (demand3 cs .lawful .conserved a)) (λ p e. absurd (true≢false (sym e))))
+
+  -- an accepted page is written over the buffer's first 5,346 bytes, and no other byte is touched
+  paged : (a : ℕ) (buffer : List ℕ) → 1 ≤ a → a ≤ accounts → 5346 ≤ length buffer → let x = pageOf b a buffer in
+      (x .refusal ≡ 0) × (x .bytes ≡ 5346) × (take 5346 (x .buffer) ≡ pageTextIn h a) × (drop 5346 (x .buffer) ≡ drop 5346 buffer)
+  unfolding pageIn between
+  paged a buffer l m r =
+      let long = pages-formed .bytes h (kept .valid) a m in
+      rw (page-same kept a buffer, le-leb 1 a l, le-leb a accounts m, le-ltb (length buffer) 5346 r)
+      (refl, refl, take-at (pageTextIn h a) (drop 5346 buffer) 5346 long, drop-at (pageTextIn h a) (drop 5346 buffer) 5346 long)
+
+  -- each of its lines has 80 columns and a newline
+  lined : (a : ℕ) → a ≤ accounts → AllLines (pageRows a (statementIn h a 0) (entryLinesIn h h a))
+  lined = pages-formed .columns h (kept .valid)
 
   divided : (e : Raw) → In e h → kindOf (e .kind) ≡ kind.Contribution → e .amount ≡ toArrears h e + refundsPaid h e + fate h e .held + fate h e .retained
   divided = demand3 cs .lawful .divided

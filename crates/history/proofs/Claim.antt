@@ -12,7 +12,7 @@ use Rattle.queries.specs.Chain as chains
 use Rattle.carry.specs.Carry.{carryRefusalOf}
 use Rattle.history.specs.History.{History, answersAlong, heldOf, heldAmount, fate}
 use Rattle.history.specs.Agreement.{keptEntry, Kept}
-use Rattle.history.specs.Queries.{Query, statement, contribution, save, stated, given, queryIn}
+use Rattle.history.specs.Queries.{Query, statement, contribution, page, save, stated, given, paged, queryIn}
 use Rattle.history.specs.Calls.{Call, posting, carryOver, query, posted, queried, callIn, historyAfter, historyOf}
 use Rattle.history.specs.Claim.{queryOf, callOf, bookAfter, bookOf, guaranteeHeldOf, Demand3}
 use Rattle.history.proofs.Laws.{laws}
@@ -22,12 +22,14 @@ use Rattle.history.proofs.Carry.{results-same, carried-kept}
 use Rattle.history.proofs.Calls.{lists-same}
 use Rattle.history.proofs.Images.{save-same, saved-same}
 use Rattle.history.proofs.Queries.{chain-reads, reads-total, held-read, statement-same, contribution-same}
+use Rattle.history.proofs.Pages.{page-same}
 
 -- a query on a book that keeps a history answers as the history
 query-same : {b : Book} {h : History} → Kept b h → (q : Query) → queryOf b q ≡ queryIn h q
 unfolding queryOf queryIn
 query-same w (statement account allowance) = ap stated (statement-same w account allowance)
 query-same w (contribution account node serial) = ap given (contribution-same w account node serial)
+query-same w (page account buffer) = ap paged (page-same w account buffer)
 query-same w (save buffer) = rw (save-same w buffer, saved-same w buffer) refl
 
 -- so does every call, and the next book keeps the next history

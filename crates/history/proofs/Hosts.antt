@@ -18,18 +18,20 @@ use Rattle.entries.specs.Order.{firstRefusal}
 use Rattle.image_post.specs.Postings.{PostingExit, readEntry, postRefusal, postInto, postImage}
 use Rattle.image_carry.specs.Carries.{CarryExit, readRun, carryRefusal, carryInto, carryImage}
 use Rattle.image_read.specs.Reads.{statementImage, contributionImage}
+use Rattle.image_page.specs.Pages.{pageImage}
 use Rattle.history.specs.History.{History, offer, offers}
 use Rattle.history.specs.Laws.{Valid, empty, joins}
 use Rattle.history.specs.Images.{recordsBy, imageIn, bytesIn, shortIn, roomIn, savedBy, AllTyped}
 use Rattle.history.specs.Agreement.{Kept}
 use Rattle.history.specs.Trips.{historyIn}
-use Rattle.history.specs.Hosts.{HostQuery, check, statement, contribution, HostCall, posting, carryOver, query, queried, hostQueryOf, wrote, hostOf, freshImage, postRefusalIn, postIn, carryRefusalIn, carryIn, hostQueryIn, hostIn, Lent, AllLent, HostClaim, Demand3Hosts}
+use Rattle.history.specs.Hosts.{HostQuery, check, statement, contribution, page, HostCall, posting, carryOver, query, queried, hostQueryOf, wrote, hostOf, freshImage, postRefusalIn, postIn, carryRefusalIn, carryIn, hostQueryIn, hostIn, Lent, AllLent, HostClaim, Demand3Hosts}
 use Rattle.history.proofs.Tests.{tested, either}
 use Rattle.history.proofs.Agreement.{agreement}
 use Rattle.history.proofs.Laws.{offered, laws}
 use Rattle.history.proofs.Carry.{replied-number, posts-same, results-same}
 use Rattle.history.proofs.Calls.{lists-same}
 use Rattle.history.proofs.Queries.{statement-same, contribution-same}
+use Rattle.history.proofs.Pages.{page-same}
 use Rattle.history.proofs.Images.{bytes-same, save-same, saved-same}
 use Rattle.history.proofs.Trips.{length-image, loads, image-loads, image-again, image-typed, decoded-typed, loaded-kept}
 
@@ -49,10 +51,11 @@ module _ {b : Book} {h : History} (w : Kept b h) where
       rw (save-same next output, bytes-same next, saved-same next output, results-same w (readRun run) results) refl
 
   query-same : (q : HostQuery) → hostQueryOf (acceptedLoad b) q ≡ hostQueryIn h q
-  unfolding hostQueryOf hostQueryIn statementImage contributionImage
+  unfolding hostQueryOf hostQueryIn statementImage contributionImage pageImage
   query-same check = rw (w .agrees .counted) refl
   query-same (statement account allowance) = rw (statement-same w account allowance) refl
   query-same (contribution account node serial) = rw (contribution-same w account node serial) refl
+  query-same (page account output) = rw (page-same w account output) refl
 
 -- THE IMAGE THAT IT LEAVES
 

@@ -71,7 +71,7 @@ raw-kept r kind.Guarantee f s p next e g n y = same-raw (omega arith)
 raw-kept r kind.Reduction f s p next e g n y = same-raw (omega arith)
 raw-kept r kind.Retention f s p next e g n y = same-raw (omega arith)
 
-record-kept : (all h : History) (r : Raw) → judge h r ≡ 0 → entryRecord (keptEntry all h r) ≡ record { raw = r; next = newestOf h (r .account) }
+pub record-kept : (all h : History) (r : Raw) → judge h r ≡ 0 → entryRecord (keptEntry all h r) ≡ record { raw = r; next = newestOf h (r .account) }
 unfolding rawOf entryOf
 record-kept all h r j =
     let p = accepts h r j in

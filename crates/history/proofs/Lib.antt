@@ -16,8 +16,10 @@ pub mod Images
 pub mod Calls
 pub mod Carry
 pub mod Queries
+pub mod Pages
 pub mod Claim
 pub mod Trips
 pub mod Hosts
+pub mod PageFigures
 pub mod Witness
 pub mod Cited

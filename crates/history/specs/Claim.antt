@@ -12,18 +12,20 @@ use Rattle.queries.specs.Chain.{chainAt, totalOf}
 use Rattle.queries.specs.Chain as chains
 use Rattle.queries.specs.Statements.{statementOf}
 use Rattle.queries.specs.Contributions.{contributionQueryOf}
+use Rattle.pages.specs.Pages.{pageOf}
 use Rattle.saves.specs.Saves.{saveOf, savedIn}
 use Rattle.history.specs.History.{accounts, after, answersAlong, balance, entriesOf, total, heldOf, heldAmount}
 use Rattle.history.specs.Laws.{Lawful, Bounded}
 use Rattle.history.specs.Agreement.{Kept}
 use Rattle.carry.specs.Carry.{carryRefusalOf, carryBookOf, carryResultsOf}
-use Rattle.history.specs.Queries.{Query, statement, contribution, save, QueryAnswer, stated, given, saved}
+use Rattle.history.specs.Queries.{Query, statement, contribution, page, save, QueryAnswer, stated, given, paged, saved}
 use Rattle.history.specs.Calls.{Call, posting, carryOver, query, CallAnswer, posted, carried, queried, answersIn, historyOf}
 
 -- the queries on a book
 unfoldable pub queryOf : Book → Query → QueryAnswer
 queryOf b (statement account allowance) = stated (statementOf b account allowance)
 queryOf b (contribution account node serial) = given (contributionQueryOf b account node serial)
+queryOf b (page account buffer) = paged (pageOf b account buffer)
 queryOf b (save buffer) = saved (saveOf b buffer .refusal) (saveOf b buffer .bytes) (savedIn b buffer)
 
 -- the calls on a book: the next book, and the answer
@@ -49,7 +51,7 @@ guaranteeHeldOf e = particularsOf (e .«data») .«guarantee_held» .0
 pub record Claim (cs : List Call) : Type 0 where
   -- Every answer in the list is the history's at that point: an offered entry's refusal number is 0 exactly when it joins; which
   -- calls are refused, which statements are complete and an accepted posting's four amounts; and what every accepted statement,
-  -- contribution query and save gives, a save's buffer among it.
+  -- contribution query, page and save gives, a page's and a save's buffer among it.
   pub answered : answersOf cs ≡ answersIn cs
   -- the book after the list has the history's arrears
   pub arrears : (a : ℕ) → 1 ≤ a → a ≤ accounts → accountAt (bookOf cs) a .arrears .0 ≡ balance (historyOf cs) a .arrears

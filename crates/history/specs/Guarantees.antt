@@ -7,7 +7,7 @@ use Rattle.rules.specs.declared.answers.PostingReply.{PostingReply}
 use Rattle.history.specs.History.{offer, repliedOf, answersAlong}
 
 -- an entry of node 1, its serial last: account, kind, day, amount, a, b, the serial that it names or 0
-abbrev entry : ℕ → ℕ → ℕ → ℕ → ℕ → ℕ → ℕ → ℕ → Raw
+abbrev pub entry : ℕ → ℕ → ℕ → ℕ → ℕ → ℕ → ℕ → ℕ → Raw
 entry account kind day amount a b named serial =
     record {
       kind = kind;

@@ -8,4 +8,5 @@ pub mod Calls
 pub mod Claim
 pub mod Trips
 pub mod Hosts
+pub mod PageFigures
 pub mod Witness

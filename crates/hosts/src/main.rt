@@ -3,12 +3,16 @@ use codec::encode;
 use contribution_book::contribution_book_carry_over;
 use contribution_book::contribution_book_check;
 use contribution_book::contribution_book_contribution;
+use contribution_book::contribution_book_page;
 use contribution_book::contribution_book_post;
 use contribution_book::contribution_book_statement;
 use entries::Raw;
 use text::first;
 
 const ROOM: usize = 288;
+
+// One byte more than a page has.
+const PAGE_ROOM: usize = 5347;
 
 // A node's image: the first bytes of an array.
 struct Host {
@@ -217,6 +221,31 @@ fn query(host: Host, account: u16, node: u8, serial: u32) {
     io::write_all(1, b"\n");
 }
 
+// The first 19 lines of a page. Takes the array as it is, so that a call needs no proof of its length.
+fn print_lines(page: &[u8; PAGE_ROOM]) {
+    io::write_all(1, part(page, 0, 19 * 81));
+}
+
+// Asks for a page with so much room. Last are the output's first byte and the one past a page, 255 before; then the page's first 19 lines,
+// where it is accepted.
+fn page(host: Host, account: u16, room: usize) {
+    let image = host.image;
+    let mut output = [255u8; PAGE_ROOM];
+    let n = first(&image, host.length);
+    let m = first(&output, room);
+    let given = contribution_book_page(&image[..n], account, &mut output[..m]);
+    io::write_all(1, b"page");
+    print(given.refusal as u64);
+    print(given.record as u64);
+    print(given.bytes as u64);
+    print(wide(output[0]));
+    print(wide(output[PAGE_ROOM - 1]));
+    io::write_all(1, b"\n");
+    if given.refusal == 0 {
+        print_lines(&output);
+    }
+}
+
 // Node 1: a contribution, bills, an added customer, a deposit and its return, a payment, the expiry.
 fn first_node() -> Host {
     let start = fresh();
@@ -261,6 +290,8 @@ fn refused(host: Host, other: Host) {
     query(host, 129, 3, 1);
     query(host, 129, 1, 1);
     query(host, 5, 1, 2);
+    page(host, 129, 5345);
+    page(host, 5, 5345);
 }
 
 // Every call on an image that is damaged.
@@ -270,6 +301,7 @@ fn all_refused(host: Host, other: Host) {
     carry_into(host, other, 72, 5, ROOM);
     state(host, 5, 9);
     query(host, 5, 1, 1);
+    page(host, 5, PAGE_ROOM);
 }
 
 fn main() {
@@ -282,6 +314,7 @@ fn main() {
     let carried = carry_into(paid, other, 72, 5, ROOM);
     state(carried, 5, 99);
     query(carried, 5, 2, 3);
+    page(carried, 5, PAGE_ROOM);
     show(carried, 0, 24);
     show(carried, 264, 24);
 }

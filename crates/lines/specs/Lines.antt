@@ -1,13 +1,7 @@
 -- The statement printer's lines, as bytes.
 use Prim.Native.Nat.{ℕ}
 use mathlib.Core.List.{List, [], _∷_, _++_}
-use Rattle.lines.specs.Decimal.{digits}
-
-abbrev pub space : ℕ
-space = 32
-
-abbrev pub newline : ℕ
-newline = 10
+use Rattle.decimal.specs.Decimal.{newline, space, digits}
 
 -- no line of the printer's has more bytes
 abbrev pub longestLine : ℕ

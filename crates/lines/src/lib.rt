@@ -1,26 +1,27 @@
 // The statement printer's lines, each written into a lent buffer from a place on. What is given is the place after the line; where
 // the buffer has no room for the line, both stay as they were.
 use buffers::put;
+use decimal::COLUMNS;
+use decimal::put_columns;
 ghost use Prim.Native.Nat.{_+_, _*_, _≤_, _<_};
 ghost use mathlib.Core.Path.{_≡_};
 ghost use mathlib.Core.List.{_∷_, _++_};
 ghost use lib.ListN.{length, take};
-ghost use Rattle.lines.specs.Decimal.{digits};
-ghost use Rattle.lines.specs.Lines.{space, longestLine, lineOf, accountLine, endLine, refusedLine};
+ghost use Rattle.decimal.specs.Decimal.{space, digits};
+ghost use Rattle.lines.specs.Lines.{longestLine, lineOf, accountLine, endLine, refusedLine};
 ghost use Rattle.buffers.specs.Buffers.{writtenAt};
 
 // No line is longer: `longestLine`.
 pub const LONGEST_LINE: usize = 128;
 
-// Puts a space and a number in decimal at a place of a text, and gives the place after it. A number has at most 20 digits.
+// Puts a space and a number in decimal, which has at most 20 digits, at a place of a text, and gives the place after it.
 fn number(text: &mut [u8], at: usize, n: u64) -> usize
     requires { ⌜ at + 21 ≤ length (now text) ⌝ }
     ensures { λ r. ⌜ (r ≤ at + 21) × (take r (now (text .exit)) ≡ take at (now (text .entry)) ++ (space ∷ digits n)) ⌝ }
 {
-    let mut shown = [0u8; 20];
-    let k = io::decimal(n, &mut shown);
-    let from = put(text, at, b" ");
-    put(text, from, &shown[..k])
+    let shown = decimal::number(n);
+    // The column before a number's digits is a space.
+    put_columns(text, at, shown, shown.length + 1)
 }
 
 // Writes a word and numbers, one space between, and the end of the line.
@@ -53,10 +54,11 @@ pub fn account_line(
     ensures { λ r. ⌜ (record { buffer = now (buf .exit); place = r }) ≡ writtenAt (accountLine account arrears credit deposit held) at (now (buf .entry)) ⌝ }
     ensures { λ _. ⌜ length (accountLine account arrears credit deposit held) ≤ longestLine ⌝ }
 {
-    let mut shown = [0u8; 20];
-    let k = io::decimal(account as u64, &mut shown);
+    let shown = decimal::number(account as u64);
+    let columns = shown.columns;
+    let from = COLUMNS - shown.length;
     let numbers = [arrears, credit, deposit, held];
-    line(buf, at, &shown[..k], &numbers)
+    line(buf, at, &columns[from..], &numbers)
 }
 
 // `end` and the count.

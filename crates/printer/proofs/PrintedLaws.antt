@@ -4,8 +4,7 @@ use mathlib.Core.Path.{_≡_}
 use mathlib.Core.Bool.{true, false}
 use mathlib.Core.List.{List, _++_, append-nil}
 use native.Mathlib.Numerals.{add-one}
-use native.Mathlib.Omega.{arith}
-use lib.ListN.{length, drop, getD, length-append}
+use lib.ListN.{length, getD}
 use lib.Dec.{eqb}
 use borrow.Author.Tests.{eq-eqb, ne-eqb}
 use Rattle.entries.specs.Refusals.{refusalNumber}
@@ -60,7 +59,3 @@ pub printed-refused : (l : Loaded) (n : Refusal) (faulty : ℕ) → l .answer �
     printedOf (loadedReply l) ≡ refusedLine (refusalNumber n) faulty
 unfolding printedOf loadedReply
 printed-refused l n faulty e = rw (e, is-refusal n)
-
--- a length is within the text that is written
-pub within : (t l after : List ℕ) (n : ℕ) → (n ≡ length t) × (after ≡ t ++ drop n l) → n ≤ length after
-within t l after n e = rw (e .1, length-append, ← e .0) (omega arith)

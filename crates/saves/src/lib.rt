@@ -76,7 +76,7 @@ fn customer(entry: Entry, node: u8, serial: u32, shared: Metres, phases: u8) -> 
 }
 
 // The entry as it was given.
-fn raw_of(entry: Entry) -> Raw
+pub fn raw_of(entry: Entry) -> Raw
     ensures { λ r. ⌜ r ≡ rawOf entry ⌝ }
 {
     let data = entry.data;

@@ -8,6 +8,8 @@ pub use lists::at;
 pub use reading::LONGEST_READ;
 pub use reading::Line;
 pub use reading::NUMBERS;
+pub use reading::Parsed;
+pub use reading::number;
 pub use shapes::BUFFER;
 pub use shapes::PLACES;
 pub use shapes::SHOWN;

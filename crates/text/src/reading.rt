@@ -19,9 +19,9 @@ pub enum Line {
 }
 
 // A number and the place after it.
-struct Parsed {
-    value: u64,
-    next: usize,
+pub struct Parsed {
+    pub value: u64,
+    pub next: usize,
 }
 
 // A digit's value, and 10 for any other byte.
@@ -39,7 +39,7 @@ fn digit(byte: u8) -> u64
 }
 
 // The number that begins at a place. Where none does, or one beyond 64 bits, the place after it is the place itself.
-fn number(line: &[u8], from: usize) -> Parsed
+pub fn number(line: &[u8], from: usize) -> Parsed
     ensures { λ r. ⌜ (from ≤ r .next) × (r ≡ numberIn from (drop from (now (line .entry))) 0 from) ⌝ }
 {
     let mut at = from;

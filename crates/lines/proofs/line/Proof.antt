@@ -5,7 +5,8 @@ use native.Mathlib.Omega.{arith}
 use denote.Ref.{now}
 use lib.ListN.{length, take, drop}
 use lib.Seq.{length-take-le}
-use Rattle.lines.specs.Lines.{newline, longestLine, numbersOf, lineOf}
+use Rattle.lines.specs.Lines.{longestLine, numbersOf, lineOf}
+use Rattle.decimal.specs.Decimal.{newline}
 use Rattle.buffers.proofs.Buffers.{Appended, appended}
 use Rattle.lines.proofs.Lines.{next-number, finished}
 use borrow.Author.Needs.{needs}

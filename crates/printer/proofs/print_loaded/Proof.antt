@@ -1,8 +1,8 @@
 use mathlib.Core.Path.{sym}
 use lib.Seq.{length-take-le}
+use Rattle.buffers.proofs.Buffers.{within}
 use Rattle.replays.specs.Loaded.{loadedReply}
 use Rattle.printer.specs.Printed.{printedOf}
-use Rattle.printer.proofs.PrintedLaws.{within}
 use borrow.Author.Needs.{needs}
 use Rattle.printer.proofs.print_loaded.Statement.{statement}
 use Rattle.printer.proofs.print_loaded.Tie as tie

@@ -5,7 +5,8 @@
 use crate::cases::{Call, Case};
 use contribution_book::plain::{parse_record, Raw, ENTRIES, RECORD};
 use contribution_book::proved::{
-    self, CarryGiven, CheckGiven, ContributionGiven, PostingGiven, StatementGiven, LONGEST_IMAGE,
+    self, CarryGiven, CheckGiven, ContributionGiven, PageGiven, PostingGiven, StatementGiven,
+    LONGEST_IMAGE,
 };
 use contribution_book::{by_value, plain};
 
@@ -35,6 +36,7 @@ pub enum Answer {
     Carried(CarryGiven),
     Statement(StatementGiven),
     Contribution(ContributionGiven),
+    Page(PageGiven),
 }
 
 impl Answer {
@@ -45,6 +47,7 @@ impl Answer {
             Answer::Carried(given) => given.refusal,
             Answer::Statement(given) => given.refusal,
             Answer::Contribution(given) => given.refusal,
+            Answer::Page(given) => given.refusal,
         }
     }
 }
@@ -70,6 +73,7 @@ fn proved(case: &Case, buffers: &mut Buffers) -> Answer {
             node,
             serial,
         } => Answer::Contribution(proved::contribution(image, account, node, serial)),
+        &Call::Page { account } => Answer::Page(proved::page(image, account, output)),
     }
 }
 
@@ -96,6 +100,10 @@ fn plain(case: &Case, buffers: &mut Buffers) -> Answer {
             node,
             serial,
         } => Answer::Contribution(book.contribution_query(account, node, serial).into()),
+        &Call::Page { account } => {
+            let (refusal, bytes) = book.page(account, &mut buffers.output);
+            page(refusal, bytes)
+        }
     }
 }
 
@@ -127,6 +135,10 @@ fn by_value(case: &Case, buffers: &mut Buffers) -> Answer {
             let (_, reply) = book.contribution_query(account, node, serial);
             Answer::Contribution(reply.into())
         }
+        &Call::Page { account } => {
+            let (_, refusal, bytes) = book.page(account, &mut buffers.output);
+            page(refusal, bytes)
+        }
     }
 }
 
@@ -155,5 +167,13 @@ fn carried(refusal: u8, bytes: usize) -> Answer {
         refusal,
         bytes,
         ..CarryGiven::default()
+    })
+}
+
+fn page(refusal: u8, bytes: usize) -> Answer {
+    Answer::Page(PageGiven {
+        refusal,
+        bytes,
+        ..PageGiven::default()
     })
 }

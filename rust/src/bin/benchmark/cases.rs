@@ -17,6 +17,7 @@ pub enum Call {
     CarryOver { run: Vec<u8> },
     Statement { account: u16, allowance: u64 },
     Contribution { account: u16, node: u8, serial: u32 },
+    Page { account: u16 },
 }
 
 impl Case {
@@ -139,6 +140,7 @@ fn dated(entries: Vec<Raw>, first: u16, apart: u16) -> Vec<Raw> {
 fn single_calls() -> Vec<Case> {
     let contribution = run(CONTRIBUTION, 1..=1);
     let chain = [contribution, run(PAYMENT, 2..=1_024)].concat();
+    let payments = run(PAYMENT, 1..=1_024);
     let payment = records(&run(PAYMENT, 1_001..=1_001));
     let statement = Call::Statement {
         account: ACCOUNT,
@@ -149,18 +151,16 @@ fn single_calls() -> Vec<Case> {
         node: 1,
         serial: 1,
     };
+    let page = Call::Page { account: ACCOUNT };
     vec![
         Case::new(
             "a payment after 1,000 entries of all kinds",
             &mixed(1_000),
             Call::Post { entry: payment },
         ),
-        Case::new(
-            "statement of a chain of 1,024",
-            &run(PAYMENT, 1..=1_024),
-            statement,
-        ),
+        Case::new("statement of a chain of 1,024", &payments, statement),
         Case::new("contribution at the end of a chain of 1,024", &chain, query),
+        Case::new("page of a chain of 1,024", &payments, page),
     ]
 }
 

@@ -87,10 +87,21 @@ pub enum Request {
         node: u8,
         serial: u32,
     },
+    Page {
+        account: u16,
+        output: Buffer,
+    },
 }
 
 /// The kinds of call, in the order of `Request::kind`.
-pub const KINDS: [&str; 5] = ["check", "post", "carry over", "statement", "contribution"];
+pub const KINDS: [&str; 6] = [
+    "check",
+    "post",
+    "carry over",
+    "statement",
+    "contribution",
+    "page",
+];
 
 #[derive(Clone, Copy, Debug, PartialEq, Eq)]
 pub enum Answer {
@@ -99,6 +110,7 @@ pub enum Answer {
     Carried(CarryGiven),
     Statement(StatementGiven),
     Contribution(ContributionGiven),
+    Page(PageGiven),
 }
 
 impl Request {
@@ -110,6 +122,7 @@ impl Request {
             Request::CarryOver { .. } => 2,
             Request::Statement { .. } => 3,
             Request::Contribution { .. } => 4,
+            Request::Page { .. } => 5,
         }
     }
 
@@ -141,6 +154,11 @@ impl Request {
                 record,
                 ..ContributionGiven::default()
             }),
+            Request::Page { .. } => Answer::Page(PageGiven {
+                refusal,
+                record,
+                ..PageGiven::default()
+            }),
         }
     }
 }
@@ -157,6 +175,7 @@ impl Call {
                 results,
                 output,
             } => buffers.extend([("run", run), ("results", results), ("output", output)]),
+            Request::Page { output, .. } => buffers.push(("output", output)),
             _ => {}
         }
         buffers
@@ -188,6 +207,9 @@ impl Call {
                 node,
                 serial,
             } => Answer::Contribution(contribution(image, account, node, serial)),
+            Request::Page { account, output } => {
+                Answer::Page(page(image, *account, output.bytes_mut()))
+            }
         }
     }
 }

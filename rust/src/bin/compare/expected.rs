@@ -4,7 +4,7 @@
 use crate::call::{Answer, Call, Request};
 use contribution_book::plain::*;
 use contribution_book::proved::{
-    CarryGiven, CheckGiven, ContributionGiven, PostingGiven, StatementGiven,
+    CarryGiven, CheckGiven, ContributionGiven, PageGiven, PostingGiven, StatementGiven,
 };
 
 pub struct Expected {
@@ -64,6 +64,9 @@ fn answer(book: &mut Book, request: &mut Request) -> Given<Answer> {
             node,
             serial,
         } => Answer::Contribution(contribution(book, account, node, serial)?),
+        Request::Page { account, output } => {
+            Answer::Page(page(book, *account, output.bytes_mut())?)
+        }
     })
 }
 
@@ -113,4 +116,14 @@ fn contribution(book: &Book, account: u16, node: u8, serial: u32) -> Given<Contr
     let reply = book.contribution_query(account, node, serial);
     accept(reply.refusal)?;
     Ok(reply.into())
+}
+
+fn page(book: &Book, account: u16, output: &mut [u8]) -> Given<PageGiven> {
+    let (refusal, bytes) = book.page(account, output);
+    accept(refusal)?;
+    Ok(PageGiven {
+        refusal: 0,
+        record: 0,
+        bytes,
+    })
 }

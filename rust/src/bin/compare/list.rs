@@ -40,12 +40,13 @@ impl List {
     /// The next call, until the list ends.
     pub fn next_call(&mut self) -> Option<Call> {
         self.calls = self.calls.checked_sub(1)?;
-        let request = match self.random.below(8) {
+        let request = match self.random.below(9) {
             0 => Request::Check,
             1..=3 => self.post(),
             4 | 5 => self.carry_over(),
             6 => self.statement(),
-            _ => self.contribution(),
+            7 => self.contribution(),
+            _ => self.page(),
         };
         let (image_kind, image) = match self.random.below(2) {
             0 => (Kind::Saved, self.history.image()),
@@ -169,6 +170,13 @@ impl List {
             account: raw.account,
             node: raw.node,
             serial: raw.serial,
+        }
+    }
+
+    fn page(&mut self) -> Request {
+        Request::Page {
+            account: self.account(),
+            output: self.output(PAGE),
         }
     }
 

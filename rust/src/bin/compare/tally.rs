@@ -28,6 +28,7 @@ const OF_CALLS: [Possible; KINDS.len()] = [
     |number| matches!(number, 0 | 17 | 21 | 22),
     |number| matches!(number, 0 | 3),
     |number| matches!(number, 0 | 2 | 3 | 8),
+    |number| matches!(number, 0 | 3 | 23),
 ];
 
 const ENTRY_KINDS: [&str; LAST_KIND as usize + 1] = [

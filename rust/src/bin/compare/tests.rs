@@ -5,7 +5,7 @@ use crate::call::{Answer, Call, Request};
 use crate::difference::{compare, Difference};
 use crate::expected::expected;
 use crate::tally::Tally;
-use contribution_book::plain::{REDUCTION, RETENTION};
+use contribution_book::plain::{PAGE, REDUCTION, RETENTION};
 
 /// How many lists are compared where no difference is found before.
 const LISTS: u64 = 1_000;
@@ -13,7 +13,7 @@ const LISTS: u64 = 1_000;
 /// What a library does otherwise than the plain book, after it.
 type Slip = fn(&mut Call, &mut Answer);
 
-const ANSWER_SLIPS: [(&str, Slip); 15] = [
+const ANSWER_SLIPS: [(&str, Slip); 17] = [
     ("a full image", |_, answer| {
         if let Answer::Checked(given) = answer {
             given.entries = given.entries.min(1_023);
@@ -86,6 +86,19 @@ const ANSWER_SLIPS: [(&str, Slip); 15] = [
         Answer::Posted(given) if posts(call, RETENTION) => given.retained = 0,
         _ => {}
     }),
+    ("the page's length", |_, answer| {
+        if let Answer::Page(given) = answer {
+            given.bytes = given.bytes.min(PAGE - 1);
+        }
+    }),
+    ("23 before 3", |call, answer| {
+        let (Request::Page { output, .. }, Answer::Page(given)) = (&call.request, answer) else {
+            return;
+        };
+        if given.refusal == 3 && output.bytes().len() < PAGE {
+            given.refusal = 23;
+        }
+    }),
 ];
 
 /// Whether the call posts an entry of this kind.
@@ -95,6 +108,57 @@ fn posts(call: &Call, kind: u8) -> bool {
         _ => false,
     }
 }
+
+/// Writes a space at this line and column, counted from 1, of an accepted page.
+fn put_space(call: &mut Call, answer: &Answer, line: usize, column: usize) {
+    let (Request::Page { output, .. }, Answer::Page(given)) = (&mut call.request, answer) else {
+        return;
+    };
+    if given.refusal == 0 {
+        output.bytes_mut()[81 * (line - 1) + column - 1] = b' ';
+    }
+}
+
+const PAGE_SLIPS: [(&str, Slip); 9] = [
+    ("past the page", |call, answer| {
+        let (Request::Page { output, .. }, Answer::Page(_)) = (&mut call.request, answer) else {
+            return;
+        };
+        if let Some(byte) = output.bytes_mut().get_mut(PAGE) {
+            *byte = !*byte;
+        }
+    }),
+    ("a refused page's output", |call, answer| {
+        let (Request::Page { output, .. }, Answer::Page(given)) = (&mut call.request, answer)
+        else {
+            return;
+        };
+        if given.refusal == 23 {
+            output.bytes_mut().fill(b' ');
+        }
+    }),
+    ("arrears from 10,000,000.00 on", |call, answer| {
+        put_space(call, answer, 3, 70);
+    }),
+    ("credit from 10,000,000.00 on", |call, answer| {
+        put_space(call, answer, 4, 70);
+    }),
+    ("held from 10,000,000.00 on", |call, answer| {
+        put_space(call, answer, 6, 70);
+    }),
+    ("a number of four digits", |call, answer| {
+        put_space(call, answer, 8, 1);
+    }),
+    ("a day of five digits", |call, answer| {
+        put_space(call, answer, 8, 6);
+    }),
+    ("a kind of two digits", |call, answer| {
+        put_space(call, answer, 8, 12);
+    }),
+    ("the 58th entry of a page", |call, answer| {
+        put_space(call, answer, 65, 80);
+    }),
+];
 
 const BUFFER_SLIPS: [(&str, Slip); 5] = [
     ("past the image written", |call, answer| {
@@ -170,7 +234,8 @@ fn a_list_begins_where_serials_are_few() {
 
 #[test]
 fn every_slip_is_found() {
-    for (name, slip) in ANSWER_SLIPS.iter().chain(&BUFFER_SLIPS) {
+    let slips = ANSWER_SLIPS.iter().chain(&BUFFER_SLIPS).chain(&PAGE_SLIPS);
+    for (name, slip) in slips {
         assert!(first_difference(*slip).is_some(), "{name}");
     }
 }
@@ -194,6 +259,7 @@ fn what_was_tried_too_rarely_is_named() {
         "fewer than 100000 calls",
         "image of check: refusal number 20 fewer than 100 times",
         "post: refusal number 7 fewer than 100 times",
+        "page: refusal number 23 fewer than 100 times",
         "expiry: accepted fewer than 100 times",
     ] {
         assert!(shortages.iter().any(|shortage| shortage == line), "{line}");

@@ -1,0 +1,2 @@
+pub mod RowsLaws
+pub mod Pages
