@@ -222,39 +222,143 @@ fn p6_added_customer_and_expiry_days() {
     refused(&mut late, on(1_926, expiry(3, 1)), 11);
 }
 
-#[test]
-fn p7_p8_billed_amounts() {
-    let figures = [
-        (10_000, 30, 7, 2_333),
-        (5, 2, 1, 3),
-        (10_000, 30, 0, 0),
-        (100_000_000, 62, 62, 100_000_000),
-    ];
-    for (charge, period, served, billed) in figures {
+/// Posts bills to fresh books: charge, period, days served and billed.
+fn bills_are(figures: &[(u32, u16, u8, u64)]) {
+    for &(charge, period, served, billed) in figures {
         let mut book = Book::fresh();
         let raw = bill(1, charge, period, served);
         assert_eq!(accepted(&mut book, raw), [0; 4]);
-        assert_eq!(balance(&book), (billed, 0));
+        assert_eq!(balance(&book), (billed, 0), "{raw:?}");
         assert_eq!(book.statement(5, 1).bills, billed);
     }
 }
 
 #[test]
+fn p7_p8_billed_amounts() {
+    bills_are(&[
+        (10_000, 30, 7, 2_333),
+        (5, 2, 1, 2),
+        (10_000, 30, 0, 0),
+        (100_000_000, 62, 62, 100_000_000),
+    ]);
+}
+
+#[test]
+fn a_bill_at_a_half_goes_to_the_even_cent() {
+    bills_are(&[
+        // 1/2, 3/2, 5/2 and 7/2.
+        (1, 2, 1, 0),
+        (3, 2, 1, 2),
+        (5, 2, 1, 2),
+        (7, 2, 1, 4),
+        // The same of other periods.
+        (1, 62, 31, 0),
+        (6, 4, 1, 2),
+        (3, 30, 25, 2),
+        (5, 10, 7, 4),
+        // 49,999,998.5 and 49,999,999.5.
+        (99_999_997, 2, 1, 49_999_998),
+        (99_999_999, 62, 31, 50_000_000),
+    ]);
+}
+
+#[test]
+fn a_bill_beside_a_half_goes_to_the_nearest_cent() {
+    bills_are(&[
+        // 30, 31 and 32 of 62 parts, after 0, 1 and 2 cents.
+        (30, 62, 1, 0),
+        (31, 62, 1, 0),
+        (32, 62, 1, 1),
+        (92, 62, 1, 1),
+        (93, 62, 1, 2),
+        (94, 62, 1, 2),
+        (154, 62, 1, 2),
+        (155, 62, 1, 2),
+        (156, 62, 1, 3),
+    ]);
+}
+
+#[test]
+fn an_odd_period_has_no_half() {
+    bills_are(&[
+        (7, 1, 1, 7),
+        (1, 3, 1, 0),
+        (2, 3, 1, 1),
+        (4, 3, 1, 1),
+        (5, 3, 1, 2),
+        // 30 and 31 of 61 parts, after 0 and 1 cents.
+        (30, 61, 1, 0),
+        (31, 61, 1, 1),
+        (91, 61, 1, 1),
+        (92, 61, 1, 2),
+    ]);
+}
+
+/// Returns deposits of day 0: amount, rate, days and interest.
+fn interests_are(figures: &[(u32, u16, u16, u64)]) {
+    for &(amount, rate, days, interest) in figures {
+        let mut book = book(&[deposit(1, amount, rate)]);
+        assert_eq!(book.statement(5, 0).deposit, u64::from(amount));
+        let paid_out = u64::from(amount) + interest;
+        let raw = on(days, deposit_return(2));
+        let expected = [0, paid_out, 0, interest];
+        assert_eq!(accepted(&mut book, raw), expected, "{amount} at {rate}");
+        assert_eq!(book.statement(5, 0).deposit, 0);
+    }
+}
+
+#[test]
 fn p9_p10_interest() {
-    let figures = [
+    interests_are(&[
         (30_000, 520, 365, 1_560),
         (1_000, 100, 18, 0),
         (1_000, 100, 19, 1),
         // 100,000,000 x 0.2 x 36,524 / 365 = 2,001,315,068.49...
         (100_000_000, 2_000, 36_524, 2_001_315_068),
-    ];
-    for (amount, rate, days, interest) in figures {
-        let mut book = book(&[deposit(1, amount, rate)]);
-        assert_eq!(book.statement(5, 0).deposit, u64::from(amount));
-        let paid_out = u64::from(amount) + interest;
-        let raw = on(days, deposit_return(2));
-        assert_eq!(accepted(&mut book, raw), [0, paid_out, 0, interest]);
-        assert_eq!(book.statement(5, 0).deposit, 0);
+    ]);
+}
+
+#[test]
+fn interest_at_a_half_goes_to_the_even_cent() {
+    interests_are(&[
+        // 1, 3, 5 and 7 times 1,825,000 out of 3,650,000.
+        (250, 100, 73, 0),
+        (750, 100, 73, 2),
+        (250, 100, 365, 2),
+        (250, 700, 73, 4),
+        // A hundred years of 365 days at 12.5 percent: 12.5 times the deposit,
+        // which is 1,249,999,962.5 and 1,249,999,987.5.
+        (99_999_997, 1_250, 36_500, 1_249_999_962),
+        (99_999_999, 1_250, 36_500, 1_249_999_988),
+    ]);
+}
+
+#[test]
+fn interest_beside_a_half_goes_to_the_nearest_cent() {
+    // One day at a hundredth of a percent, out of 3,650,000.
+    interests_are(&[
+        (1_824_999, 1, 1, 0),
+        (1_825_000, 1, 1, 0),
+        (1_825_001, 1, 1, 1),
+        (5_474_999, 1, 1, 1),
+        (5_475_000, 1, 1, 2),
+        (5_475_001, 1, 1, 2),
+        (9_124_999, 1, 1, 2),
+        (9_125_000, 1, 1, 2),
+        (9_125_001, 1, 1, 3),
+    ]);
+}
+
+#[test]
+fn refunds_and_reductions_at_a_half_are_rounded_down() {
+    // 1/2, 3/2, 5/2 and 7/2.
+    for (halves, cents) in [(1, 0), (3, 1), (5, 2), (7, 3)] {
+        let mut refunds = book(&[contribution(1, halves, 9, 1)]);
+        assert_eq!(accepted(&mut refunds, added(2, 1, 9)), [0, cents, 0, 0]);
+
+        let mut reductions = book(&[guarantee(1, 100), on(365, payment(2, 5 * halves))]);
+        let raw = on(365, reduction(3, 1));
+        assert_eq!(accepted(&mut reductions, raw), [0, cents, 0, 0]);
     }
 }
 
@@ -305,6 +409,31 @@ fn corrections_in_the_other_directions() {
 }
 
 #[test]
+fn corrections_of_a_bill_at_a_half() {
+    // Charge for two days, billed for one, new amount, what the correction
+    // settles; arrears and credit after it where the bill was paid.
+    let figures = [
+        (5, 2, 3, 0, (1, 0)),
+        (5, 2, 2, 0, (0, 0)),
+        (5, 2, 1, 1, (0, 1)),
+        (7, 4, 5, 0, (1, 0)),
+        (7, 4, 4, 0, (0, 0)),
+        (7, 4, 3, 1, (0, 1)),
+    ];
+    for (charge, billed, amount, settled, expected) in figures {
+        let mut unpaid = book(&[bill(1, charge, 2, 1)]);
+        let raw = correction(2, 1, amount);
+        assert_eq!(accepted(&mut unpaid, raw), [settled, 0, 0, 0], "{raw:?}");
+        assert_eq!(balance(&unpaid), (amount.into(), 0));
+
+        let mut paid = book(&[bill(1, charge, 2, 1), payment(2, billed)]);
+        let raw = correction(3, 1, amount);
+        assert_eq!(accepted(&mut paid, raw), [0; 4], "{raw:?}");
+        assert_eq!(balance(&paid), expected);
+    }
+}
+
+#[test]
 fn byte_figure_in_both_directions() {
     let mut bytes = [0; 48];
     bytes[..6].copy_from_slice(&[0x43, 0x48, 0x42, 0x31, 0x01, 0x00]);
@@ -326,6 +455,53 @@ fn byte_figure_in_both_directions() {
         ..StatementReply::default()
     };
     assert_eq!(loaded.statement(5, 1), expected);
+}
+
+#[test]
+fn an_older_image_of_a_bill_at_a_half() {
+    // Charge 5, 1 of 2 days.
+    let mut bytes = [0; 48];
+    bytes[..6].copy_from_slice(&[0x43, 0x48, 0x42, 0x31, 0x01, 0x00]);
+    bytes[24..].copy_from_slice(&[
+        0x03, 0x01, 0x05, 0x00, 0x0A, 0x00, 0x00, 0x00, //
+        0x01, 0x00, 0x00, 0x00, 0x05, 0x00, 0x00, 0x00, //
+        0x00, 0x00, 0x00, 0x00, 0x02, 0x00, 0x01, 0x00,
+    ]);
+    let (loaded, refusal, record) = Book::load(&bytes);
+    assert_eq!((refusal, record), (0, 0));
+    let expected = StatementReply {
+        arrears: 2,
+        links_read: 1,
+        bills: 2,
+        complete: true,
+        ..StatementReply::default()
+    };
+    assert_eq!(loaded.statement(5, 1), expected);
+    let mut line = Vec::new();
+    write_account(&mut line, 5, &loaded.statement(5, 0)).unwrap();
+    assert_eq!(line, b"5 2 0 0 0\n");
+    assert!(page(&loaded, 5)[7].ends_with(" 0.02"));
+    assert_eq!(image(&loaded), bytes);
+}
+
+#[test]
+fn older_images_with_entries_after_a_half() {
+    // A record has no rounded amount, so the bytes are those saved before. A
+    // bill of 2 and a payment of 3 leave a credit of 1. A deposit of 250 without
+    // interest settles all but 50 of a bill of 300.
+    let paid = [bill(1, 5, 2, 1), payment(2, 3)];
+    let returned = [
+        deposit(1, 250, 100),
+        bill(2, 300, 1, 1),
+        on(73, deposit_return(3)),
+    ];
+    for (entries, expected) in [(&paid[..], (0, 1)), (&returned[..], (50, 0))] {
+        let bytes = image(&book(entries));
+        let (loaded, refusal, record) = Book::load(&bytes);
+        assert_eq!((refusal, record), (0, 0));
+        assert_eq!(balance(&loaded), expected);
+        assert_eq!(image(&loaded), bytes);
+    }
 }
 
 #[test]

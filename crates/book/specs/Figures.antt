@@ -1,4 +1,4 @@
--- Document 01's figures P1 to P12, about the rules themselves: one table, the decision on each posting and what it should be.
+-- The documents' figures P1 to P12, about the rules themselves: one table, the decision on each posting and what it should be.
 -- Each goes through the checks and the effect.
 use Prim.Native.Nat.{ℕ}
 use mathlib.Core.Path.{_≡_}
@@ -129,7 +129,7 @@ figures =
     (post line 7 1926 0 0 0 gives posted 0 0 300000 0 0 0) ∷
     -- P7, P8
     (post line 3 100 10000 30 7 gives posted 0 0 0 0 2333 0) ∷
-    (post line 3 100 5 2 1 gives posted 0 0 0 0 3 0) ∷
+    (post line 3 100 5 2 1 gives posted 0 0 0 0 2 0) ∷
     -- P9, P10
     (post (begins 5 100 30000 520 0) 6 465 0 0 0 gives posted 0 31560 0 1560 0 0) ∷
     (post (begins 5 100 1000 100 0) 6 118 0 0 0 gives posted 0 1000 0 0 0 0) ∷

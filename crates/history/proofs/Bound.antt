@@ -7,6 +7,7 @@ use mathlib.Core.Bool.{Bool, true, false, cond}
 use mathlib.Core.List.{[], _∷_}
 use lib.ListN.{length, take}
 use lib.Dec.{eqb}
+use Rattle.measures.proofs.Rounding.{rounded-most}
 use Rattle.entries.specs.Kinds.{kindOf, sameOf}
 use Rattle.entries.specs.Ranges.{amountMost, limitsOf, rateMost, billPeriodMost}
 use Rattle.entries.specs.declared.raw.Raw.{Raw}
@@ -28,19 +29,19 @@ pub in-ranges : {h : History} → Valid h → (e : Raw) → In e h → FieldsInR
 in-ranges (joins {r} {h} v j) e (newest q) = subst (λ (x : Raw). FieldsInRange x (kindOf (x .kind))) q (accepts h r j .ranges)
 in-ranges (joins v j) e (older t) = in-ranges v e t
 
-pub billed-small : (charge served days : ℕ) → charge ≤ amountMost → served ≤ billPeriodMost → days ≤ 65535 → billed charge served days ≤ large
-billed-small charge served days c s d =
+pub billed-small : (charge served days : ℕ) → charge ≤ amountMost → served ≤ billPeriodMost → billed charge served days ≤ large
+billed-small charge served days c s =
     let p : charge * served ≤ amountMost * billPeriodMost = mul-le-mul c s in
-    omega (arith, div-le-self (2 * (charge * served) + days) (2 * days))
+    omega (arith, rounded-most (charge * served) days, div-le-self (charge * served) days)
 
 pub interest-small : (deposit rate days : ℕ) → deposit ≤ amountMost → rate ≤ rateMost → days ≤ lastDay → interest deposit rate days ≤ large
 interest-small deposit rate days d r t =
     let p : deposit * rate ≤ amountMost * rateMost = mul-le-mul d r in
     let q : deposit * rate * days ≤ amountMost * rateMost * lastDay = mul-le-mul p t in
-    omega arith
+    omega (arith, rounded-most (deposit * rate * days) 3650000)
 
 first-small : (e : Raw) (t : Bool) → FieldsInRange e (kindOf (e .kind)) → cond t (billed (e .amount) (e .b) (e .a)) (e .amount) ≤ large
-first-small e true w = billed-small (e .amount) (e .b) (e .a) (w .amount) (w .b) (w .a)
+first-small e true w = billed-small (e .amount) (e .b) (e .a) (w .amount) (w .b)
 first-small e false w = omega (arith, w .amount)
 
 -- what became of an entry
@@ -133,7 +134,7 @@ bounded (joins {r} {h} v j) a = go (bounded v a) (eqb (r .account) a)
         let paid = paidBy h r in
         let f = targetFate h (named h r) in
         let amounts =
-        moved-amounts r e paid f b (kindOf (e .kind)) (length h) w (s .amount) (billed-small (r .amount) (r .b) (r .a) (s .amount) (s .b) (s .a))
+        moved-amounts r e paid f b (kindOf (e .kind)) (length h) w (s .amount) (billed-small (r .amount) (r .b) (r .a) (s .amount) (s .b))
         (interest-small (b .deposit) (b .rate) (r .day - b .deposited) (w .deposit) (w .rate) (omega (arith, p .day))) (named-small v r j (role h r j)) (kindOf (r .kind)) in
         record {
           arrears = amounts .0;

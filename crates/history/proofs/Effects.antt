@@ -92,7 +92,7 @@ module _ (r : Raw) (b : Balance) (guarantee : Bool) (newest n : ℕ) (w : Small 
   own-effect l e sum f kind.Contribution a u s d = refl
   own-effect l e sum f kind.AddedCustomer a u s d = absurd (true≢false a)
   own-effect l e sum f kind.Bill a u s d =
-      let small = billed-small (r .amount) (r .b) (r .a) (s .amount) (s .b) (s .a) in
+      let small = billed-small (r .amount) (r .b) (r .a) (s .amount) (s .b) in
       rw (plain .bill (r .amount) (r .b) (r .a) (s .amount) (omega (arith, s .b)), charged-plain b guarantee newest (billed (r .amount) (r .b) (r .a)) (omega arith)) (simp zeros)
   own-effect l e sum f kind.Payment a u s d = rw (kept-plain b guarantee newest (r .amount) (omega (arith, s .amount))) (simp zeros)
   own-effect l e sum f kind.Deposit a u s d = refl

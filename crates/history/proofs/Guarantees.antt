@@ -1,10 +1,11 @@
 -- The figures of guarantees, by computation.
 use mathlib.Core.Path.{refl}
+use Rattle.measures.specs.Rounding.{rounded}
 use Rattle.entries.specs.Kinds.{kindOf}
 use Rattle.entries.specs.Ranges.{limitsOf, between, namedFits, bFits, inRangeOf}
 use Rattle.history.specs.History.{lastSerial, points, names, find, named, filter, sum, fate, moveBy, balance, amounts, judge, offer, repliedOf}
 use Rattle.history.specs.Guarantees.{Guarantees}
 
 pub guarantees : Guarantees
-unfolding kindOf limitsOf between namedFits bFits inRangeOf lastSerial points names find named filter sum fate moveBy balance amounts judge offer repliedOf
+unfolding rounded kindOf limitsOf between namedFits bFits inRangeOf lastSerial points names find named filter sum fate moveBy balance amounts judge offer repliedOf
 guarantees = (refl, (refl, (refl, (refl, (refl, tt)))))

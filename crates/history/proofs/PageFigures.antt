@@ -1,5 +1,6 @@
 -- A page worked out by hand, by computation.
 use mathlib.Core.Path.{refl}
+use Rattle.measures.specs.Rounding.{rounded}
 use Rattle.entries.specs.Kinds.{kindOf}
 use Rattle.entries.specs.Ranges.{limitsOf, between, namedFits, bFits, inRangeOf}
 use Rattle.decimal.specs.Decimal.{digitsIn, digits, dollars, right}
@@ -9,5 +10,5 @@ use Rattle.history.specs.Queries.{statementIn, entryLineIn, entryLinesIn
 use Rattle.history.specs.PageFigures.{PageFigures}
 
 pub page-figures : PageFigures
-unfolding kindOf limitsOf between namedFits bFits inRangeOf digitsIn digits dollars right blankRow accountRow figureRow entryRow entryRows textOf lastSerial points names find named filter sum fate moveBy balance judge offer statementIn entryLineIn entryLinesIn pageTextIn pageIn
+unfolding rounded kindOf limitsOf between namedFits bFits inRangeOf digitsIn digits dollars right blankRow accountRow figureRow entryRow entryRows textOf lastSerial points names find named filter sum fate moveBy balance judge offer statementIn entryLineIn entryLinesIn pageTextIn pageIn
 page-figures = record { written = refl; short = refl; unknown = refl }

@@ -1,5 +1,6 @@
 -- The documents' figures as one list of calls, by computation.
 use mathlib.Core.Path.{refl}
+use Rattle.measures.specs.Rounding.{rounded}
 use Rattle.entries.specs.Kinds.{kindOf}
 use Rattle.entries.specs.Ranges.{limitsOf, between, namedFits, bFits, inRangeOf}
 use Rattle.history.specs.History.{lastSerial, points, names, find, named, filter, sum, fate, moveBy, balance, amounts, judge, offer, repliedOf, addedUp}
@@ -8,5 +9,5 @@ use Rattle.history.specs.Calls.{callIn}
 use Rattle.history.specs.Witness.{Witness}
 
 pub witnessed : Witness
-unfolding kindOf limitsOf between namedFits bFits inRangeOf lastSerial points names find named filter sum fate moveBy balance amounts judge offer repliedOf addedUp statementIn contributionIn queryIn callIn
+unfolding rounded kindOf limitsOf between namedFits bFits inRangeOf lastSerial points names find named filter sum fate moveBy balance amounts judge offer repliedOf addedUp statementIn contributionIn queryIn callIn
 witnessed = record { answered = refl; accounts = refl }

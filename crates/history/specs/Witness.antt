@@ -1,5 +1,5 @@
--- Document 01's figures P1 to P6, P9, P11 and P12, and those of a guarantee, as one list of calls with their answers, worked out from
--- the documents. It shows that demand 3 speaks of them: each kind of entry joins, and no sum of it is always zero.
+-- The figures P1 to P12, and those of a guarantee and of halves of a cent, as one list of calls with their answers, worked out from the
+-- documents. It shows that demand 3 speaks of them: each kind of entry joins, and no sum of it is always zero.
 use Prim.Native.Nat.{ℕ, min}
 use mathlib.Core.Path.{_≡_}
 use mathlib.Core.Bool.{Bool, true, false}
@@ -119,6 +119,20 @@ witness =
     (posting (entry 10 1 7 1926 29 0 0 0 23) gives refused 11) ∷
     (posting (entry 9 1 7 1926 29 700 0 0 0) gives accepted 30 0 0 0 0) ∷
     (statement 7 7 gives stated 0 0 0 0 7 71000 70000 true) ∷
+    -- P7, and P8, an exact half, which goes to the even cent; a correction of what it billed, 2, to 3
+    (posting (entry 3 1 8 100 30 10000 30 7 0) gives accepted 31 0 0 0 0) ∷
+    (statement 8 1 gives stated 2333 0 0 0 1 2333 0 true) ∷
+    (posting (entry 3 1 8 100 31 5 2 1 0) gives accepted 32 0 0 0 0) ∷
+    (statement 8 2 gives stated 2335 0 0 0 2 2335 0 true) ∷
+    (posting (entry 8 1 8 100 32 3 0 0 31) gives accepted 33 0 0 0 0) ∷
+    (statement 8 3 gives stated 2336 0 0 0 3 2336 0 true) ∷
+    -- P10: a deposit of 1,000 at 100, returned after 18 days, and again after 19; then one of 750 after 73, whose interest is exactly 3 / 2
+    (posting (entry 5 1 8 100 33 1000 100 0 0) gives accepted 34 0 0 0 0) ∷
+    (posting (entry 6 1 8 118 34 0 0 0 0) gives accepted 35 1000 0 0 0) ∷
+    (posting (entry 5 1 8 118 35 1000 100 0 0) gives accepted 36 0 0 0 0) ∷
+    (posting (entry 6 1 8 137 36 0 0 0 0) gives accepted 37 1001 0 0 1) ∷
+    (posting (entry 5 1 8 137 37 750 100 0 0) gives accepted 38 0 0 0 0) ∷
+    (posting (entry 6 1 8 210 38 0 0 0 0) gives accepted 39 335 417 0 2) ∷
     []
 
 abbrev pub calls : List Call
@@ -156,9 +170,10 @@ summed =
     sums 0 1000 0 0 0 5000 6000 0 0 0 0 0 0 ∷
     sums 1000 700 500 0 0 0 0 0 0 1000 500 0 700 ∷
     sums 0 70000 0 20700 0 0 71000 6000 13000 0 0 700 0 ∷
+    sums 0 0 2750 0 3 0 2336 417 0 0 0 0 0 ∷
     []
 
 -- proofs/Witness.antt shows it
 pub record Witness : Type 0 where
   pub answered : answersIn calls ≡ answers
-  pub accounts : map (λ (a : ℕ). sumsOf (historyOf calls) a) (1 ∷ 2 ∷ 3 ∷ 4 ∷ 5 ∷ 6 ∷ 7 ∷ []) ≡ summed
+  pub accounts : map (λ (a : ℕ). sumsOf (historyOf calls) a) (1 ∷ 2 ∷ 3 ∷ 4 ∷ 5 ∷ 6 ∷ 7 ∷ 8 ∷ []) ≡ summed

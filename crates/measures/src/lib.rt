@@ -76,7 +76,7 @@ impl Cents {
         Cents(product(self.0, n))
     }
 
-    // The quotient to the nearest cent, an exact half upwards, and 0 by 0.
+    // The quotient to the nearest cent, an exact half to the even one, and 0 by 0.
     pub fn rounded(self, divisor: u64) -> Cents
         ensures { λ r. ⌜ r ≡ roundedOf self divisor ⌝ }
     {
@@ -85,7 +85,7 @@ impl Cents {
         }
         let whole = self.0 / divisor;
         let rest = self.0 % divisor;
-        if divisor - rest <= rest {
+        if divisor - rest < rest + whole % 2 {
             Cents(whole + 1)
         } else {
             Cents(whole)

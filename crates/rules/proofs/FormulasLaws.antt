@@ -1,4 +1,4 @@
--- No product of an entry in range reaches the limit, so the code's formulas are document 01's.
+-- No product of an entry in range reaches the limit, so the code's formulas are the documents'.
 use Prim.Native.Nat.{ℕ, _+_, _-_, _*_, _<_, _≤_, min}
 use mathlib.Core.Path.{_≡_, refl, ap, _∙_}
 use mathlib.Core.Bool.{true}
@@ -8,7 +8,6 @@ use native.Mathlib.Omega.{arith}
 use Rattle.measures.specs.Days.{lastDay}
 use Rattle.measures.specs.Cents.{cents, most}
 use Rattle.measures.specs.declared.Cents.{Cents}
-use Rattle.measures.specs.Rounding.{rounded}
 use Rattle.measures.proofs.Rounding.{rounds, floors}
 use Rattle.entries.specs.Ranges.{amountMost, limitsOf, bFits, inRangeOf, rateMost, billPeriodMost}
 use Rattle.entries.specs.Data.{metres}
@@ -24,7 +23,7 @@ fits m n a b ha hb h =
     min-eq-left (omega arith)
 
 pub plain : Plain
-unfolding billedOf refundOf interestOf rounded
+unfolding billedOf refundOf interestOf
 plain =
     record {
       bill = λ charge served period hc hs. rw (fits amountMost 255 charge served hc hs (omega arith)) refl;
@@ -57,7 +56,6 @@ plain-entries =
     }
 
 pub rounded-nearest : RoundedNearest
-unfolding rounded
 rounded-nearest =
     record {
       bill = λ charge served period h. rounds (charge * served) period h;

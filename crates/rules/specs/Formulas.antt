@@ -4,7 +4,7 @@ use mathlib.Core.Path.{_≡_}
 use mathlib.Core.Bool.{true}
 use Rattle.measures.specs.Days.{lastDay}
 use Rattle.measures.specs.Cents.{productOf, cents, timesOf, roundedOf}
-use Rattle.measures.specs.Rounding.{Nearest, Floor}
+use Rattle.measures.specs.Rounding.{rounded, Nearest, Floor}
 use Rattle.measures.specs.declared.Cents.{Cents}
 use Rattle.measures.specs.declared.Metres.{Metres}
 use Rattle.entries.specs.Ranges.{amountMost, inRangeOf, rateMost}
@@ -13,18 +13,18 @@ use Rattle.entries.specs.declared.raw.Raw.{Raw}
 use Rattle.entries.specs.declared.kinds.Kind.the-variants as kind
 use Rattle.entries.specs.declared.data.Particulars.{Particulars}
 
--- 3: billed = floor((2 × charge × served + period) / (2 × period))
+-- 3: billed = charge × served / period, rounded
 abbrev pub billed : ℕ → ℕ → ℕ → ℕ
-billed charge served period = (2 * (charge * served) + period) / (2 * period)
+billed charge served period = rounded (charge * served) period
 
 -- 2: k = 2 plus the added customers accepted before; the refund is the smaller of held and
 -- floor(contribution × metres shared / (metres built × k))
 abbrev pub refund : ℕ → ℕ → ℕ → ℕ → ℕ → ℕ
 refund held contribution shared built added = min held (contribution * shared / (built * (added + 2)))
 
--- 6: interest = floor((2 × deposit × rate × t + 3,650,000) / 7,300,000)
+-- 6: interest = deposit × rate × t / 3,650,000, rounded
 abbrev pub interest : ℕ → ℕ → ℕ → ℕ
-interest deposit rate t = (2 * (deposit * rate * t) + 3650000) / 7300000
+interest deposit rate t = rounded (deposit * rate * t) 3650000
 
 -- 10: the smaller of held and floor(payments in the window / 10)
 abbrev pub givenBack : ℕ → ℕ → ℕ
@@ -42,7 +42,7 @@ interestOf deposit rate days = roundedOf (timesOf (timesOf deposit rate) days) 3
 unfoldable pub givenBackOf : Cents → Cents → Cents
 givenBackOf held paid = cents (givenBack (held .0) (paid .0))
 
--- Within these limits no product reaches 2^64 - 1, and the code's formulas are document 01's.
+-- Within these limits no product reaches 2^64 - 1, and the code's formulas are the documents'.
 pub record Plain : Type 0 where
   pub bill : (charge served period : ℕ) → charge ≤ amountMost → served ≤ 255 → billedOf (cents charge) served period ≡ cents (billed charge served period)
   pub added-customer : (n : Particulars) (shared : Metres) → n .amount .0 ≤ amountMost → shared .0 ≤ 65535 →
@@ -59,7 +59,7 @@ pub record PlainEntries : Type 0 where
   pub deposit-return : (deposit r : Raw) → inRangeOf deposit kind.Deposit ≡ true → r .day ≤ lastDay →
       interestOf (cents (deposit .amount)) (deposit .a) (r .day - deposit .day) ≡ cents (interest (deposit .amount) (deposit .a) (r .day - deposit .day))
 
--- Billed amounts and interest are rounded by the one law of rounding: to the nearest cent, an exact half upwards.
+-- Billed amounts and interest are rounded by the one law of rounding: to the nearest cent, an exact half to the even one.
 pub record RoundedNearest : Type 0 where
   pub bill : (charge served period : ℕ) → 0 < period → Nearest (charge * served) period (billed charge served period)
   pub deposit-return : (deposit rate t : ℕ) → Nearest (deposit * rate * t) 3650000 (interest deposit rate t)

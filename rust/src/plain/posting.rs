@@ -2,16 +2,28 @@
 
 use super::check::Accepted;
 use super::*;
+use std::cmp::Ordering;
 
-/// The part of a bill's charge for the days served, rounded half up.
-fn billed(charge: u64, period: u64, served: u64) -> u64 {
-    (2 * charge * served + period) / (2 * period)
+/// The quotient to the nearest whole number, an exact half to the even one. The
+/// divisor is not 0.
+fn rounded(dividend: u64, divisor: u64) -> u64 {
+    let below = dividend / divisor;
+    let rest = dividend % divisor;
+    match (2 * rest).cmp(&divisor) {
+        Ordering::Less => below,
+        Ordering::Equal if below.is_multiple_of(2) => below,
+        Ordering::Equal | Ordering::Greater => below + 1,
+    }
 }
 
-/// Interest for `days` at a yearly rate in hundredths of a percent, rounded
-/// half up.
+/// The part of a bill's charge for the days served. A period has 1 day or more.
+fn billed(charge: u64, period: u64, served: u64) -> u64 {
+    rounded(charge * served, period)
+}
+
+/// Interest for `days` at a yearly rate in hundredths of a percent.
 fn interest(deposit: u64, rate: u64, days: u64) -> u64 {
-    (2 * deposit * rate * days + 3_650_000) / 7_300_000
+    rounded(deposit * rate * days, 3_650_000)
 }
 
 impl Book {

@@ -5,11 +5,9 @@ use crate::history::History;
 use crate::random::Random;
 use contribution_book::plain::*;
 
-/// A deposit of an odd number of times these cents, at this rate, earns an
-/// interest that ends in one half in an odd number of times these days.
-const HALF_DEPOSIT: u32 = 250;
-const HALF_RATE: u16 = 100;
-const HALF_DAYS: u16 = 73;
+/// Deposit x rate x days that earn half a cent, and rates that divide it.
+const HALF_CENT: u32 = 1_825_000;
+const HALF_RATES: [u16; 5] = [1, 8, 100, 1_000, 1_825];
 /// How many entries are drawn for one of a given refusal number.
 const DRAWS: usize = 128;
 
@@ -165,7 +163,6 @@ fn any_day(random: &mut Random) -> u16 {
 fn day_from(random: &mut Random, kind: u8, earlier: u16) -> u16 {
     let year = REDUCTION_INTERVAL;
     let edges = match kind {
-        DEPOSIT_RETURN => [0, 1, HALF_DAYS, 3 * HALF_DAYS, 5 * HALF_DAYS],
         PAYMENT | REDUCTION => [0, 1, year - 1, year, year + 1],
         _ => [0, 1, REFUND_PERIOD - 1, REFUND_PERIOD, REFUND_PERIOD + 1],
     };
@@ -200,12 +197,13 @@ fn fields(random: &mut Random, pool: &Pool, kind: u8, earlier: Option<Raw>) -> R
     let (amount, a, b) = match kind {
         CONTRIBUTION => (amount, random.sized(u16::MAX), phases(random)),
         ADDED_CUSTOMER => (0, metres_shared(random, earlier), phases(random)),
+        BILL if random.one_in(4) => half_bill(random, amount),
         BILL => {
             let period = random.within(1..=MAX_PERIOD);
             (amount, period, days_served(random, period))
         }
         PAYMENT | GUARANTEE => (amount, 0, 0),
-        DEPOSIT if random.one_in(4) => (HALF_DEPOSIT * odd(random), HALF_RATE, 0),
+        DEPOSIT if random.one_in(2) => half_deposit(random, amount),
         DEPOSIT => (amount, random.sized(MAX_RATE + 1) - 1, 0),
         CORRECTION => (corrected_amount(random, amount, earlier), 0, 0),
         _ => (0, 0, 0),
@@ -218,8 +216,30 @@ fn fields(random: &mut Random, pool: &Pool, kind: u8, earlier: Option<Raw>) -> R
     }
 }
 
-fn odd(random: &mut Random) -> u32 {
-    1 + 2 * random.within(0..=999)
+/// The greatest odd number of times this divisor up to the amount; the divisor
+/// where there is none.
+fn odd_times(divisor: u32, amount: u32) -> u32 {
+    let times = amount / divisor;
+    divisor * (times.saturating_sub(1) | 1)
+}
+
+/// The amount, a and b of a deposit whose interest ends in one half after an odd
+/// number of days.
+fn half_deposit(random: &mut Random, amount: u32) -> (u32, u16, u8) {
+    let rate = random.pick(&HALF_RATES);
+    (odd_times(HALF_CENT / u32::from(rate), amount), rate, 0)
+}
+
+/// The amount, a and b of a bill that ends in one half. Half the period is the
+/// product of two factors: the charge is an odd number of times the one, days
+/// served are an odd number of times the other.
+fn half_bill(random: &mut Random, amount: u32) -> (u32, u16, u8) {
+    let of_served = random.within(1..=MAX_PERIOD / 2);
+    let of_charge = random.within(1..=MAX_PERIOD / 2 / of_served);
+    let period = 2 * of_served * of_charge;
+    let charge = odd_times(of_charge.into(), amount);
+    let served = of_served * (2 * random.within(1..=of_charge) - 1);
+    (charge, period, served as u8)
 }
 
 fn phases(random: &mut Random) -> u8 {
@@ -244,11 +264,16 @@ fn metres_shared(random: &mut Random, earlier: Option<Raw>) -> u16 {
     }
 }
 
-/// This amount, none, or the one that the named entry was given.
+/// This amount, none, the one that the named entry was given, or whole cents
+/// next to what a named bill comes to.
 fn corrected_amount(random: &mut Random, amount: u32, earlier: Option<Raw>) -> u32 {
     match (random.below(4), earlier) {
         (0, Some(earlier)) => earlier.amount,
         (1, _) => 0,
+        (2, Some(bill)) if bill.kind == BILL => {
+            let part = u64::from(bill.amount) * u64::from(bill.b) / u64::from(bill.a);
+            part as u32 + random.within(0..=1)
+        }
         _ => amount,
     }
 }

@@ -1,9 +1,9 @@
-//! Damaged images.
+//! The entries of an image, and damaged images.
 
 use crate::entries::{self, Pool, REFUSALS};
 use crate::history::History;
 use crate::random::Random;
-use contribution_book::plain::{write_record, ENTRIES, LONGEST_IMAGE, RECORD};
+use contribution_book::plain::{parse_record, write_record, Raw, ENTRIES, LONGEST_IMAGE, RECORD};
 
 /// How an image came about.
 #[derive(Clone, Copy, Debug, PartialEq, Eq)]
@@ -40,6 +40,12 @@ impl Kind {
         Kind::Byte,
         Kind::Random,
     ];
+}
+
+/// The entries of an accepted image.
+pub fn entries_of(image: &[u8]) -> Vec<Raw> {
+    let records = image.chunks_exact(RECORD).skip(1);
+    records.map(|record| parse_record(record).0).collect()
 }
 
 /// The image of the history, damaged or, by chance, not.

@@ -8,6 +8,7 @@ mod call;
 mod difference;
 mod entries;
 mod expected;
+mod halves;
 mod history;
 mod images;
 mod list;

@@ -1,13 +1,14 @@
-//! What was tried: calls, images and entries by kind and by refusal number.
+//! What was tried: calls, images and entries by kind and by refusal number, and
+//! entries at a half.
 
-use crate::call::{Request, KINDS};
+use crate::call::{Call, Request, KINDS};
 use crate::expected::Expected;
-use crate::images;
-use contribution_book::plain::{parse_record, ENTRIES, LAST_KIND, RECORD};
+use crate::{halves, images};
+use contribution_book::plain::{parse_record, Raw, ENTRIES, LAST_KIND, RECORD};
 use std::fmt;
 
 /// How often each refusal number that can be given has to be met, and each
-/// kind of entry accepted.
+/// kind of entry accepted, also at a half.
 const LEAST: u64 = 100;
 /// How many calls have to be compared.
 const LEAST_CALLS: u64 = 100_000;
@@ -89,6 +90,7 @@ impl Met {
 
 /// How often something was accepted, and how often refused.
 type Judged = [u64; 2];
+const JUDGED: [&str; 2] = ["accepted", "refused"];
 
 pub struct Tally {
     /// The images of each kind of call.
@@ -102,6 +104,8 @@ pub struct Tally {
     sizes: [u64; SIZES.len()],
     /// Entries of each kind, posted or carried over.
     entry_kinds: [Judged; ENTRY_KINDS.len()],
+    /// Of these, the accepted ones at a half, by whole cents before it: even, odd.
+    halves: [[u64; 2]; ENTRY_KINDS.len()],
 }
 
 impl Tally {
@@ -113,6 +117,7 @@ impl Tally {
             image_kinds: [[0; 2]; images::Kind::ALL.len()],
             sizes: [0; SIZES.len()],
             entry_kinds: [[0; 2]; ENTRY_KINDS.len()],
+            halves: [[0; 2]; ENTRY_KINDS.len()],
         }
     }
 
@@ -132,29 +137,40 @@ impl Tally {
         self.images[kind].add(0);
         self.sizes[size(call.image.bytes().len() / RECORD - 1)] += 1;
         self.calls[kind].add(expected.refusal);
-        self.count_entries(&call.request, expected.refusal);
+        self.count_entries(call, expected.refusal);
     }
 
     /// Counts the entries that an accepted image was offered.
-    fn count_entries(&mut self, request: &Request, refusal: u8) {
-        match request {
+    fn count_entries(&mut self, call: &Call, refusal: u8) {
+        let mut before = images::entries_of(call.image.bytes());
+        match &call.request {
             Request::Post { entry, .. } if OF_ENTRIES(refusal) => {
-                self.count_entry(entry.bytes(), refusal);
+                self.count_entry(&mut before, entry.bytes(), refusal);
             }
             Request::CarryOver { run, results, .. } if refusal == 0 => {
                 for (record, &refusal) in run.bytes().chunks_exact(RECORD).zip(results.bytes()) {
                     self.carried.add(refusal);
-                    self.count_entry(record, refusal);
+                    self.count_entry(&mut before, record, refusal);
                 }
             }
             _ => {}
         }
     }
 
-    fn count_entry(&mut self, record: &[u8], refusal: u8) {
-        let kind = usize::from(parse_record(record).0.kind);
+    /// Counts an entry that is offered after these, and joins them unless it is
+    /// refused.
+    fn count_entry(&mut self, before: &mut Vec<Raw>, record: &[u8], refusal: u8) {
+        let raw = parse_record(record).0;
+        let kind = usize::from(raw.kind);
         let row = if kind < ENTRY_KINDS.len() { kind } else { 0 };
         self.entry_kinds[row][usize::from(refusal != 0)] += 1;
+        if refusal != 0 {
+            return;
+        }
+        if let Some(whole) = halves::of_entry(&raw, before) {
+            self.halves[row][(whole % 2) as usize] += 1;
+        }
+        before.push(raw);
     }
 
     /// What was not tried often enough, a line for each.
@@ -190,6 +206,11 @@ impl Tally {
         add(&self.carried, "entry carried");
         let kinds = ENTRY_KINDS.iter().zip(self.entry_kinds).skip(1);
         tried.extend(kinds.map(|(name, [accepted, _])| (format!("{name}: accepted"), accepted)));
+        for row in halves::KINDS.map(usize::from) {
+            let name = |cents| format!("{} at a half, {cents} cents: accepted", ENTRY_KINDS[row]);
+            let [even, odd] = self.halves[row];
+            tried.extend([(name("even"), even), (name("odd"), odd)]);
+        }
         tried
     }
 }
@@ -215,13 +236,19 @@ impl fmt::Display for Tally {
         write_met(out, &names, &columns)?;
         writeln!(out, "\nImages by kind")?;
         let image_kinds = images::Kind::ALL.map(|kind| format!("{kind:?}"));
-        write_judged(out, &image_kinds, &self.image_kinds)?;
+        write_pairs(out, JUDGED, &image_kinds, &self.image_kinds)?;
         writeln!(out, "\nAccepted images by number of entries")?;
         for (name, count) in SIZES.iter().zip(self.sizes) {
             writeln!(out, "{name:>16} {count:>10}")?;
         }
         writeln!(out, "\nEntries posted or carried over by kind")?;
-        write_judged(out, &ENTRY_KINDS.map(String::from), &self.entry_kinds)
+        let entry_kinds = ENTRY_KINDS.map(String::from);
+        write_pairs(out, JUDGED, &entry_kinds, &self.entry_kinds)?;
+        writeln!(out, "\nOf these, accepted at a half by whole cents")?;
+        let rows = halves::KINDS.map(usize::from);
+        let names = rows.map(|row| ENTRY_KINDS[row].to_string());
+        let halves = rows.map(|row| self.halves[row]);
+        write_pairs(out, ["even", "odd"], &names, &halves)
     }
 }
 
@@ -248,10 +275,16 @@ fn write_row(
     writeln!(out)
 }
 
-fn write_judged(out: &mut fmt::Formatter, names: &[String], rows: &[Judged]) -> fmt::Result {
-    writeln!(out, "{:>16} {:>10} {:>10}", "kind", "accepted", "refused")?;
-    for (name, [accepted, refused]) in names.iter().zip(rows) {
-        writeln!(out, "{name:>16} {accepted:>10} {refused:>10}")?;
+/// Two columns, a row for each name.
+fn write_pairs(
+    out: &mut fmt::Formatter,
+    [first, second]: [&str; 2],
+    names: &[String],
+    rows: &[[u64; 2]],
+) -> fmt::Result {
+    writeln!(out, "{:>16} {first:>10} {second:>10}", "kind")?;
+    for (name, [first, second]) in names.iter().zip(rows) {
+        writeln!(out, "{name:>16} {first:>10} {second:>10}")?;
     }
     Ok(())
 }

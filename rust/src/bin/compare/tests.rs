@@ -4,8 +4,10 @@
 use crate::call::{Answer, Call, Request};
 use crate::difference::{compare, Difference};
 use crate::expected::expected;
+use crate::halves;
+use crate::images::entries_of;
 use crate::tally::Tally;
-use contribution_book::plain::{PAGE, REDUCTION, RETENTION};
+use contribution_book::plain::*;
 
 /// How many lists are compared where no difference is found before.
 const LISTS: u64 = 1_000;
@@ -108,6 +110,85 @@ fn posts(call: &Call, kind: u8) -> bool {
         _ => false,
     }
 }
+
+/// Bills of the image at a half, with whole cents of this parity, go to the odd
+/// cent: the answer is as if each had that charge for 1 of 1 day.
+fn half_bills_to_odd(call: &Call, answer: &mut Answer, parity: u64) {
+    if expected(call).refusal != 0 {
+        return;
+    }
+    let mut call = call.clone();
+    for record in call.image.bytes_mut().chunks_exact_mut(RECORD).skip(1) {
+        let (raw, next) = parse_record(record);
+        let whole = halves::of_bill(&raw).filter(|whole| whole % 2 == parity);
+        if let Some(whole) = whole {
+            let amount = whole as u32 | 1;
+            let raw = Raw {
+                amount,
+                a: 1,
+                b: 1,
+                ..raw
+            };
+            write_record(record, &raw, next);
+        }
+    }
+    *answer = expected(&call).answer;
+}
+
+/// Where posted interest is at a half, with whole cents of this parity, it goes
+/// to the odd cent, and what is paid out with it. A return that pays out nothing
+/// stays.
+fn half_interest_to_odd(call: &Call, answer: &mut Answer, parity: u64) {
+    let (Request::Post { entry, .. }, Answer::Posted(given)) = (&call.request, answer) else {
+        return;
+    };
+    if !posts(call, DEPOSIT_RETURN) || given.paid_out == 0 {
+        return;
+    }
+    let raw = parse_record(entry.bytes()).0;
+    let whole = halves::of_entry(&raw, &entries_of(call.image.bytes()));
+    if let Some(whole) = whole.filter(|whole| whole % 2 == parity) {
+        let interest = whole | 1;
+        given.paid_out = given.paid_out + interest - given.interest;
+        given.interest = interest;
+    }
+}
+
+/// After even whole cents the odd cent is above the half, after odd ones below.
+const HALF_SLIPS: [(&str, Slip); 6] = [
+    ("a half bill rounded up", |call, answer| {
+        if let Answer::Statement(_) = answer {
+            half_bills_to_odd(call, answer, 0);
+        }
+    }),
+    ("a half bill rounded down", |call, answer| {
+        if let Answer::Statement(_) = answer {
+            half_bills_to_odd(call, answer, 1);
+        }
+    }),
+    (
+        "a correction after a half bill rounded up",
+        |call, answer| {
+            if posts(call, CORRECTION) {
+                half_bills_to_odd(call, answer, 0);
+            }
+        },
+    ),
+    (
+        "a correction after a half bill rounded down",
+        |call, answer| {
+            if posts(call, CORRECTION) {
+                half_bills_to_odd(call, answer, 1);
+            }
+        },
+    ),
+    ("half interest rounded up", |call, answer| {
+        half_interest_to_odd(call, answer, 0);
+    }),
+    ("half interest rounded down", |call, answer| {
+        half_interest_to_odd(call, answer, 1);
+    }),
+];
 
 /// Writes a space at this line and column, counted from 1, of an accepted page.
 fn put_space(call: &mut Call, answer: &Answer, line: usize, column: usize) {
@@ -228,15 +309,54 @@ fn the_plain_book_differs_in_nothing_from_itself() {
 /// In this list both nodes are offered serials near the last one early on.
 #[test]
 fn a_list_begins_where_serials_are_few() {
-    let list = 10_899_714_097_704_014_291;
+    let list = 17_939_457_301_718_418_461;
     assert!(compare(list, plain, &mut Tally::new()).is_ok());
 }
 
 #[test]
 fn every_slip_is_found() {
-    let slips = ANSWER_SLIPS.iter().chain(&BUFFER_SLIPS).chain(&PAGE_SLIPS);
-    for (name, slip) in slips {
+    let slips = [&ANSWER_SLIPS[..], &HALF_SLIPS, &PAGE_SLIPS, &BUFFER_SLIPS];
+    for (name, slip) in slips.into_iter().flatten() {
         assert!(first_difference(*slip).is_some(), "{name}");
+    }
+}
+
+#[test]
+fn whole_cents_of_halves() {
+    let of_kind = |kind| Raw {
+        kind,
+        ..Raw::default()
+    };
+    // Charge, period, days served.
+    let bills = [
+        ((1, 2, 1), Some(0)),
+        ((4, 2, 1), None),
+        ((7, 2, 1), Some(3)),
+        ((2, 3, 1), None),
+        ((155, 62, 1), Some(2)),
+    ];
+    for ((amount, a, b), whole) in bills {
+        let bill = Raw {
+            amount,
+            a,
+            b,
+            ..of_kind(BILL)
+        };
+        assert_eq!(halves::of_entry(&bill, &[]), whole, "{bill:?}");
+        // Their nodes and serials, and the named ones, are 0.
+        assert_eq!(halves::of_entry(&of_kind(CORRECTION), &[bill]), whole);
+    }
+    let deposit = Raw {
+        amount: 1_825,
+        a: 1_000,
+        ..of_kind(DEPOSIT)
+    };
+    for (day, whole) in [(0, None), (1, Some(0)), (2, None), (7, Some(3))] {
+        let raw = Raw {
+            day,
+            ..of_kind(DEPOSIT_RETURN)
+        };
+        assert_eq!(halves::of_entry(&raw, &[deposit]), whole, "{day} days");
     }
 }
 
@@ -261,6 +381,7 @@ fn what_was_tried_too_rarely_is_named() {
         "post: refusal number 7 fewer than 100 times",
         "page: refusal number 23 fewer than 100 times",
         "expiry: accepted fewer than 100 times",
+        "deposit return at a half, odd cents: accepted fewer than 100 times",
     ] {
         assert!(shortages.iter().any(|shortage| shortage == line), "{line}");
     }
