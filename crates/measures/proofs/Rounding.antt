@@ -96,7 +96,7 @@ halfway n d m hd h =
     either (λ q. q ≡ m + m % 2) n d hd (λ l. omega arith) (λ l. omega arith)
 
 pub rounds : Rounds
-rounds n d hd = record { nearest = λ m. apart n d (rounded n d) m (bounds n d hd); half-even = λ m h. halfway n d m hd h }
+rounds n d hd = record { nearest = λ m. apart n d (rounded n d) m (bounds n d hd); half-even = λ m h. omega (arith, halfway n d m hd h) }
 
 pub floors : Floors
 floors n d hd = record { fits = div-mul-le-self n d; greatest = λ m h. le-div-iff-mul-le hd .1 h }

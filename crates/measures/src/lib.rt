@@ -85,6 +85,7 @@ impl Cents {
         }
         let whole = self.0 / divisor;
         let rest = self.0 % divisor;
+        // Above a half, or at an exact half where whole is odd.
         if divisor - rest < rest + whole % 2 {
             Cents(whole + 1)
         } else {
