@@ -4,12 +4,14 @@
 //! Amounts are whole cents, days count from 2000-01-01, lengths are whole
 //! metres. A refusal number of 0 means accepted.
 
+mod calendar;
 mod check;
 mod image;
 mod page;
 mod posting;
 mod query;
 
+pub use calendar::{date_of, day_of, years_on, Date};
 pub(crate) use image::check_header;
 pub use image::{parse_record, write_record};
 pub use query::{ContributionReply, StatementReply};
@@ -32,11 +34,11 @@ pub const LAST_DAY: u16 = 36_524;
 pub const AMOUNT_MOST: u32 = 100_000_000;
 pub const MAX_PERIOD: u16 = 62;
 pub const MAX_RATE: u16 = 2_000;
-/// The days after a contribution from which an expiry may come and an added
-/// customer may not.
-pub const REFUND_PERIOD: u16 = 1_826;
-/// The days after a guarantee from which a retention may come.
-pub const GUARANTEE_PERIOD: u16 = 1_826;
+/// The years of a contribution's refund period: from its end on an expiry may
+/// come and an added customer may not.
+pub const REFUND_YEARS: u16 = 5;
+/// The years of a guarantee's period: from its end on a retention may come.
+pub const GUARANTEE_YEARS: u16 = 5;
 /// The days after a guarantee or its last reduction from which the next one may
 /// come.
 pub const REDUCTION_INTERVAL: u16 = 365;

@@ -15,8 +15,8 @@ pub fn entry(kind: u8, account: u16, serial: u32, named_serial: u32) -> Raw {
         CORRECTION => (1, 2_000, named_serial, 0, 0),
         GUARANTEE => (0, 50_000, 0, 0, 0),
         REDUCTION => (365, 0, named_serial, 0, 0),
-        // An expiry or a retention.
-        _ => (1_826, 0, named_serial, 0, 0),
+        // An expiry or a retention, five years after day 0.
+        _ => (1_827, 0, named_serial, 0, 0),
     };
     Raw {
         kind,

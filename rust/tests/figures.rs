@@ -222,6 +222,63 @@ fn p6_added_customer_and_expiry_days() {
     refused(&mut late, on(1_926, expiry(3, 1)), 11);
 }
 
+/// The first day of five years, and the day on which they end.
+const FIVE_YEARS: [(u16, u16); 13] = [
+    // 1 January 2000 and 2005.
+    (0, 1_827),
+    // 28 and 29 February and 1 March 2000; 28 February and 1 March 2005.
+    (58, 1_885),
+    (59, 1_886),
+    (60, 1_886),
+    // 10 April 2000 and 2005, the days of P6.
+    (100, 1_926),
+    // 31 December 2000 and 2005; 1 January 2001 and 2006.
+    (365, 2_191),
+    (366, 2_192),
+    // 28 February 2003 and 2008; 1 March 2003 and 2008.
+    (1_154, 2_980),
+    (1_155, 2_982),
+    // 29 February and 1 March 2004; 1 March 2009.
+    (1_520, 3_347),
+    (1_521, 3_347),
+    // 29 February 2092; 1 March 2097.
+    (33_662, 35_489),
+    // 31 December 2094 and 2099.
+    (34_698, 36_524),
+];
+
+/// Days from which five years end after 2099-12-31: 1 January 2095, 29 February
+/// 2096, 31 December 2099.
+const WITHOUT_END: [u16; 3] = [34_699, 35_123, 36_524];
+
+#[test]
+fn a_refund_period_ends_on_the_same_date_five_years_on() {
+    for (first, end) in FIVE_YEARS {
+        let start = book(&[on(first, contribution(1, 300_000, 200, 1))]);
+
+        let mut last_day = start.clone();
+        refused(&mut last_day, on(end - 1, expiry(2, 1)), 13);
+        let customer = on(end - 1, added(2, 1, 100));
+        assert_eq!(accepted(&mut last_day, customer), [0, 75_000, 0, 0]);
+
+        let mut ended = start;
+        refused(&mut ended, on(end, added(2, 1, 100)), 12);
+        let raw = on(end, expiry(2, 1));
+        assert_eq!(accepted(&mut ended, raw), [0, 0, 300_000, 0]);
+    }
+}
+
+#[test]
+fn a_refund_period_that_does_not_end() {
+    for first in WITHOUT_END {
+        let mut book = book(&[on(first, contribution(1, 300_000, 200, 1))]);
+        refused(&mut book, on(first, expiry(2, 1)), 13);
+        refused(&mut book, on(36_524, expiry(2, 1)), 13);
+        let customer = on(36_524, added(2, 1, 100));
+        assert_eq!(accepted(&mut book, customer), [0, 75_000, 0, 0]);
+    }
+}
+
 /// Posts bills to fresh books: charge, period, days served and billed.
 fn bills_are(figures: &[(u32, u16, u8, u64)]) {
     for &(charge, period, served, billed) in figures {
@@ -505,6 +562,58 @@ fn older_images_with_entries_after_a_half() {
 }
 
 #[test]
+fn an_older_image_with_an_expiry_1826_days_on() {
+    // A contribution of day 0 and its expiry on 1,826, which is 0x0722.
+    let mut bytes = [0; 72];
+    bytes[..6].copy_from_slice(&[0x43, 0x48, 0x42, 0x31, 0x02, 0x00]);
+    bytes[24..48].copy_from_slice(&[
+        0x01, 0x01, 0x05, 0x00, 0x00, 0x00, 0x00, 0x00, //
+        0x01, 0x00, 0x00, 0x00, 0xC4, 0x09, 0x00, 0x00, //
+        0x00, 0x00, 0x00, 0x00, 0xC8, 0x00, 0x01, 0x00,
+    ]);
+    bytes[48..].copy_from_slice(&[
+        0x07, 0x01, 0x05, 0x00, 0x22, 0x07, 0x01, 0x00, //
+        0x02, 0x00, 0x00, 0x00, 0x00, 0x00, 0x00, 0x00, //
+        0x01, 0x00, 0x00, 0x00, 0x00, 0x00, 0x00, 0x01,
+    ]);
+    load_refused(&bytes, 13, 2);
+
+    // On 1,827.
+    bytes[52] = 0x23;
+    let (loaded, refusal, record) = Book::load(&bytes);
+    assert_eq!((refusal, record), (0, 0));
+    let expected = ContributionReply {
+        amount: 2_500,
+        retained: 2_500,
+        closed: true,
+        ..ContributionReply::default()
+    };
+    assert_eq!(loaded.contribution_query(5, 1, 1), expected);
+    assert_eq!(image(&loaded), bytes);
+}
+
+#[test]
+fn refusals_12_13_and_26_at_load() {
+    // From 29 February 2000 to 1 March 2005, day 1,886. 1,885 is 0x075D.
+    let contribution = on(59, contribution(1, 300_000, 200, 1));
+    let guarantee = on(59, guarantee(1, 50_000));
+    // Two entries that load, and the low byte of the second's day on which 12,
+    // 13 or 26 refuses it.
+    let figures = [
+        ([contribution, on(1_885, added(2, 1, 100))], 0x5E, 12),
+        ([contribution, on(1_886, expiry(2, 1))], 0x5D, 13),
+        ([guarantee, on(1_886, retention(2, 1))], 0x5D, 26),
+    ];
+    for (entries, byte, refusal) in figures {
+        let posted = book(&entries);
+        let mut bytes = image(&posted);
+        assert!(Book::load(&bytes) == (posted, 0, 0));
+        bytes[52] = byte;
+        load_refused(&bytes, refusal, 2);
+    }
+}
+
+#[test]
 fn an_image_of_every_kind_loads_as_saved() {
     let posted = book(&[
         contribution(1, 300_000, 200, 3),
@@ -516,11 +625,11 @@ fn an_image_of_every_kind_loads_as_saved() {
         payment(4, 7_000),
         deposit(5, 30_000, 520),
         on(365, deposit_return(6)),
-        on(1_826, expiry(7, 1)),
+        on(1_827, expiry(7, 1)),
         correction(8, 2, 41_000),
         guarantee(9, 50_000),
         on(365, reduction(10, 9)),
-        on(1_826, retention(11, 9)),
+        on(1_827, retention(11, 9)),
         Raw {
             node: 2,
             account: 128,
@@ -905,7 +1014,7 @@ fn a_reduction_counts_payments_as_they_stand_at_its_posting() {
     assert_eq!(accepted(&mut book, raw), [0, 400, 0, 0]);
     accepted(&mut book, on(400, correction(8, 4, 9_000)));
     accepted(&mut book, on(390, payment(9, 70)));
-    let rest = on(1_826, retention(10, 1));
+    let rest = on(1_827, retention(10, 1));
     assert_eq!(accepted(&mut book, rest), [0, 0, 99_600, 0]);
 }
 
@@ -955,7 +1064,7 @@ fn a_reduction_gives_back_what_is_held_at_most() {
         let raw = on(day, reduction(serial, 1));
         assert_eq!(accepted(&mut book, raw), [0, amount, 0, 0]);
     }
-    let rest = on(1_826, retention(8, 1));
+    let rest = on(1_827, retention(8, 1));
     assert_eq!(accepted(&mut book, rest), [0; 4]);
 }
 
@@ -987,7 +1096,7 @@ fn a_reduction_settles_arrears_first() {
         let raw = on(365, reduction(4, 1));
         assert_eq!(accepted(&mut book, raw), [settled, paid_out, 0, 0]);
         assert_eq!(balance(&book), (arrears, credit));
-        let rest = on(1_826, retention(5, 1));
+        let rest = on(1_827, retention(5, 1));
         assert_eq!(accepted(&mut book, rest), [0, 0, 49_200, 0]);
         assert_eq!(balance(&book), (arrears, credit));
     }
@@ -1045,7 +1154,7 @@ fn refusal_8_of_guarantees() {
         refused(&mut book, Raw { account: 6, ..raw }, 8);
     }
     for raw in [added(6, 2, 1), expiry(6, 2), correction(6, 2, 1)] {
-        refused(&mut book, on(1_826, raw), 8);
+        refused(&mut book, on(1_827, raw), 8);
     }
     assert_eq!(book.contribution_query(5, 1, 2).refusal, 8);
 }
@@ -1082,7 +1191,7 @@ fn refusal_24_while_a_guarantee_is_open() {
     let raw = on(365, reduction(4, 1));
     assert_eq!(accepted(&mut book, raw), [0, 500, 0, 0]);
     refused(&mut book, on(2_000, guarantee(5, 1)), 24);
-    assert_eq!(accepted(&mut book, on(1_826, retention(5, 1))), [0; 4]);
+    assert_eq!(accepted(&mut book, on(1_827, retention(5, 1))), [0; 4]);
     accepted(&mut book, guarantee(6, 1));
     refused(&mut book, guarantee(7, 1), 24);
     refused(&mut book, on(36_524, reduction(7, 1)), 11);
@@ -1094,9 +1203,9 @@ fn a_deposit_and_a_guarantee_are_held_together() {
     let mut book = book(&[guarantee(1, 500), deposit(2, 700, 0)]);
     refused(&mut book, guarantee(3, 1), 24);
     refused(&mut book, deposit(3, 1, 0), 9);
-    let raw = on(1_826, deposit_return(3));
+    let raw = on(1_827, deposit_return(3));
     assert_eq!(accepted(&mut book, raw), [0, 700, 0, 0]);
-    let rest = on(1_826, retention(4, 1));
+    let rest = on(1_827, retention(4, 1));
     assert_eq!(accepted(&mut book, rest), [0, 0, 500, 0]);
 }
 
@@ -1132,13 +1241,48 @@ fn refusal_26_days_of_retentions() {
 }
 
 #[test]
+fn a_guarantee_s_period_ends_on_the_same_date_five_years_on() {
+    for (first, end) in FIVE_YEARS {
+        let mut book = book(&[on(first, guarantee(1, 50_000))]);
+        refused(&mut book, on(end - 1, retention(2, 1)), 26);
+        let raw = on(end, retention(2, 1));
+        assert_eq!(accepted(&mut book, raw), [0, 0, 50_000, 0]);
+    }
+}
+
+#[test]
+fn a_guarantee_s_period_that_does_not_end() {
+    for first in WITHOUT_END {
+        let mut book = book(&[on(first, guarantee(1, 50_000))]);
+        refused(&mut book, on(first, retention(2, 1)), 26);
+        refused(&mut book, on(36_524, retention(2, 1)), 26);
+        refused(&mut book, on(36_524, guarantee(2, 1)), 24);
+    }
+}
+
+#[test]
+fn reductions_go_by_365_days_in_a_leap_year_too() {
+    let mut book = book(&[
+        guarantee(1, 50_000),
+        payment(2, 3_000),
+        on(1, payment(3, 200)),
+    ]);
+    refused(&mut book, on(364, reduction(4, 1)), 25);
+    // 31 December 2000: the payment of 1 January doesn't count.
+    let raw = on(365, reduction(4, 1));
+    assert_eq!(accepted(&mut book, raw), [0, 20, 0, 0]);
+    refused(&mut book, on(729, reduction(5, 1)), 25);
+    assert_eq!(accepted(&mut book, on(730, reduction(5, 1))), [0; 4]);
+}
+
+#[test]
 fn refusals_24_to_26_at_load() {
     let posted = book(&[
         payment(1, 1),
         guarantee(2, 50_000),
         payment(3, 9),
         on(365, reduction(4, 2)),
-        on(1_826, retention(5, 2)),
+        on(1_827, retention(5, 2)),
     ]);
     let good = image(&posted);
     let (loaded, refusal, record) = Book::load(&good);
@@ -1146,8 +1290,8 @@ fn refusals_24_to_26_at_load() {
     assert!(loaded == posted);
 
     // A place in the record, its byte there, and what refuses it. 364 is
-    // 0x016C and 1,825 is 0x0721.
-    for (record, at, byte, refusal) in [(3, 0, GUARANTEE, 24), (4, 4, 0x6C, 25), (5, 4, 0x21, 26)] {
+    // 0x016C and 1,826 is 0x0722.
+    for (record, at, byte, refusal) in [(3, 0, GUARANTEE, 24), (4, 4, 0x6C, 25), (5, 4, 0x22, 26)] {
         let mut bytes = good.clone();
         bytes[24 * record + at] = byte;
         load_refused(&bytes, refusal, record as u16);
@@ -1162,7 +1306,7 @@ fn records_of_guarantees() {
     let posted = book(&[
         on(10, guarantee(1, 2_500)),
         on(375, reduction(2, 1)),
-        on(1_836, retention(3, 1)),
+        on(1_837, retention(3, 1)),
     ]);
     let mut bytes = [0; 72];
     bytes[..16].copy_from_slice(&[
@@ -1174,7 +1318,7 @@ fn records_of_guarantees() {
         0x02, 0x00, 0x00, 0x00,
     ]);
     bytes[48..60].copy_from_slice(&[
-        0x0B, 0x01, 0x05, 0x00, 0x2C, 0x07, 0x02, 0x00, //
+        0x0B, 0x01, 0x05, 0x00, 0x2D, 0x07, 0x02, 0x00, //
         0x03, 0x00, 0x00, 0x00,
     ]);
     for record in [24, 48] {
@@ -1227,7 +1371,7 @@ fn of_all_kinds() -> [Raw; 13] {
         on(365, deposit_return(10)),
         on(400, deposit(11, 5_000, 0)),
         on(400, bill(12, 50, 1, 1)),
-        on(1_826, expiry(13, 1)),
+        on(1_827, expiry(13, 1)),
     ]
 }
 
@@ -1255,7 +1399,7 @@ fn the_sum_of_an_account() {
     // Bills, paid out, retained, deposit held: the guarantee holds the rest.
     let rest = came - (12_750 + 43_760 + 45_000 + 5_000);
     assert_eq!(rest, 19_100);
-    let raw = on(1_826, retention(14, 2));
+    let raw = on(1_827, retention(14, 2));
     assert_eq!(accepted(&mut book, raw), [0, 0, rest, 0]);
 }
 
@@ -1471,7 +1615,7 @@ fn standing_amounts_on_a_page() {
 #[test]
 fn a_page_of_every_kind() {
     let mut book = book(&of_all_kinds());
-    accepted(&mut book, on(1_826, retention(14, 2)));
+    accepted(&mut book, on(1_827, retention(14, 2)));
     let expected = [
         "  5                                                                             ",
         "                                                                                ",
@@ -1480,8 +1624,8 @@ fn a_page_of_every_kind() {
         "                                                                           50.00",
         "                                                                            0.00",
         "                                                                                ",
-        "  14  1826 11                                                               0.00",
-        "  13  1826  7                                                               0.00",
+        "  14  1827 11                                                               0.00",
+        "  13  1827  7                                                               0.00",
         "  12   400  3                                                               0.50",
         "  11   400  5                                                              50.00",
         "  10   365  6                                                               0.00",

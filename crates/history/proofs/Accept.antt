@@ -14,7 +14,7 @@ use Rattle.entries.specs.declared.kinds.Kind.{Kind}
 use Rattle.entries.specs.declared.kinds.Kind.the-variants as kind
 use Rattle.entries.proofs.Ranges.{inside, Ranged, ranged}
 use Rattle.entries.proofs.KindsLaws.{every-kind, same-kind, no-kind}
-use Rattle.history.specs.History.{accounts, entries, periodEnd, History, lastSerial, namingGuarantee, naming, suits, Target, absent, present, find, named, Fate, fate, paidBy, guaranteeOpen, targetEntry, targetFate, Balance, moveOf, moveBy, balance, Rule, _⇒_, firstBroken, refusals, judge, lastDay}
+use Rattle.history.specs.History.{accounts, entries, dated, refundEnd, History, lastSerial, namingGuarantee, naming, suits, Target, absent, present, find, named, Fate, fate, paidBy, guaranteeOpen, targetEntry, targetFate, Balance, moveOf, moveBy, balance, Rule, _⇒_, firstBroken, refusals, judge, lastDay}
 use Rattle.history.specs.Laws.{Valid, empty, joins}
 
 pub or-left : (a b : Bool) → (a || b) ≡ false → a ≡ false
@@ -104,7 +104,7 @@ pub record Passed (h : History) (r : Raw) (k : Kind) (e : Raw) (f : Fate) (b : B
   pub deposit : (sameOf k kind.Deposit && ltb 0 (b .deposit) || sameOf k kind.DepositReturn && eqb (b .deposit) 0) ≡ false
   pub guarantee : (sameOf k kind.Guarantee && guaranteeOpen h (r .account)) ≡ false
   pub unclosed : ((sameOf (kindOf (e .kind)) kind.Contribution || sameOf (kindOf (e .kind)) kind.Guarantee) && f .closed) ≡ false
-  pub period-runs : (sameOf k kind.AddedCustomer && leb (periodEnd e) (r .day)) ≡ false
+  pub period-runs : (sameOf k kind.AddedCustomer && leb (refundEnd e) (dated (r .day))) ≡ false
   pub uncorrected : ((sameOf (kindOf (e .kind)) kind.Bill || sameOf (kindOf (e .kind)) kind.Payment) && f .corrected) ≡ false
 
 pass : (h : History) (r : Raw) (k : Kind) (e : Raw) (f : Fate) (b : Balance) → firstBroken (refusals h r k e f b) ≡ 0 → Passed h r k e f b

@@ -70,8 +70,8 @@ module _ {b : Book} {h : History} (w : Agrees b h) (v : Valid h) (r : Raw) where
       check-same h r k (b .count) (lastOf (b .last) (r .node)) (rows r k (accountAt b (r .account)) (namesOf k) (lookupOf b r))
       (targetEntry (named h r)) (targetFate h (named h r)) (balance h (r .account))
       (w .counted)
-      (λ t. last-same w (fits v) r t)
-      (λ t. state-same w (fits v) r t)
+      (λ t. last-same w v r t)
+      (λ t d. state-same w v r t d)
 
 decided-passed : (c : Check) (o : Decision) → checkNumber c ≡ 0 → decidedOf c Refused o ≡ o
 unfolding decidedOf checkNumber
@@ -119,7 +119,7 @@ module _ {b : Book} {h : History} (w : Agrees b h) (v : Valid h) (r : Raw) (j : 
 
   -- the entry that it names, as the book keeps it
   lookup-at : naming (kindOf (r .kind)) ≡ true → (i : ℕ) (e : Raw) → find h r ≡ present i e → (g : History) × (lookupOf b r ≡ chains.found i (keptEntry h g e))
-  lookup-at k i e f = found-at (lookup-same w (fits v) r known) i e (named-at h r k i e f)
+  lookup-at k i e f = found-at (lookup-same w v r known) i e (named-at h r k i e f)
 
   data-new : dataIn (r ∷ h) r ≡ keptData (kindOf (r .kind)) r (postedFate r) 0 0
   data-new = rw (fate-new v r j, given-new kind.AddedCustomer refl (λ (y : Amounts). y .settled) r v j, given-new kind.AddedCustomer refl (λ (y : Amounts). y .paidOut) r v j) refl

@@ -1,6 +1,6 @@
 -- How large the numbers of a history can grow: far below the limits of the book's sums.
 use mathlib.Core.Path.{_≡_, subst}
-use Prim.Native.Nat.{ℕ, zero, suc, _+_, _-_, _*_, _≤_}
+use Prim.Native.Nat.{ℕ, zero, suc, _-_, _*_, _≤_}
 use native.Mathlib.Omega.{arith}
 use native.Mathlib.Nat.{mul-le-mul, div-le-self}
 use mathlib.Core.Bool.{Bool, true, false, cond}
@@ -25,9 +25,16 @@ use Rattle.history.proofs.Conserve.{total-filter}
 abbrev pub large : ℕ
 large = 1000000000000
 
+-- what every entry that joins has, each of a history has
+each-has : (P : Raw → Type 0) → ((h : History) (r : Raw) → judge h r ≡ 0 → P r) → {h : History} → Valid h → (e : Raw) → In e h → P e
+each-has P has (joins {r} {h} v j) e (newest q) = subst P q (has h r j)
+each-has P has (joins v j) e (older t) = each-has P has v e t
+
 pub in-ranges : {h : History} → Valid h → (e : Raw) → In e h → FieldsInRange e (kindOf (e .kind))
-in-ranges (joins {r} {h} v j) e (newest q) = subst (λ (x : Raw). FieldsInRange x (kindOf (x .kind))) q (accepts h r j .ranges)
-in-ranges (joins v j) e (older t) = in-ranges v e t
+in-ranges = each-has (λ e. FieldsInRange e (kindOf (e .kind))) (λ h r j. accepts h r j .ranges)
+
+pub in-book : {h : History} → Valid h → (e : Raw) → In e h → e .day ≤ lastDay
+in-book = each-has (λ e. e .day ≤ lastDay) (λ h r j. accepts h r j .day)
 
 pub billed-small : (charge served days : ℕ) → charge ≤ amountMost → served ≤ billPeriodMost → billed charge served days ≤ large
 billed-small charge served days c s =

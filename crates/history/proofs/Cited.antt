@@ -8,6 +8,7 @@ use lib.ListN.{length, take, drop}
 use lib.Seq.{take-all, take-at, drop-at}
 use borrow.Author.Tests.{leb-true, le-leb, le-ltb}
 use Rattle.measures.specs.Cents.{most}
+use Rattle.calendar.specs.Dates.{dateOf}
 use Rattle.entries.specs.Kinds.{kindOf, sameOf}
 use Rattle.entries.specs.Ranges.{between}
 use Rattle.entries.specs.declared.raw.Raw.{Raw}
@@ -20,7 +21,7 @@ use Rattle.queries.specs.Statements.{statementOf}
 use Rattle.queries.specs.declared.statements.StatementReply.{StatementReply}
 use Rattle.pages.specs.Rows.{pageRows, AllLines}
 use Rattle.pages.specs.Pages.{pageOf}
-use Rattle.history.specs.History.{History, accounts, entries, refundPeriod, points, fate, total, amounts, entriesOf, settledBy, paidOutBy, toArrears, refundsPaid, customers, paidBy}
+use Rattle.history.specs.History.{History, accounts, entries, points, fate, total, amounts, entriesOf, settledBy, paidOutBy, toArrears, refundsPaid, customers, paidBy}
 use Rattle.history.specs.Laws.{In, newest, older, AccountSums, sumsOf, Refunds, Reduces, Once, Each, HasContribution}
 use Rattle.history.specs.Queries.{statementBy, statementIn, entryLinesIn, pageTextIn, pageIn}
 use Rattle.history.specs.Agreement.{Kept}
@@ -118,7 +119,11 @@ module _ (cs : List Call) where
       let w = each-at HasContribution x c g (subst (λ y. Each HasContribution y) q (demand3 cs .lawful .contributed)) k in
       (w .entry, w .member, w .contribution, w .aimed)
 
-  in-period : (c e : Raw) → In c h → In e h → kindOf (c .kind) ≡ kind.AddedCustomer → points c e ≡ true → c .day < e .day + refundPeriod
+  -- the year, month and day of an added customer are before those of its contribution with five years more
+  in-period : (c e : Raw) → In c h → In e h → kindOf (c .kind) ≡ kind.AddedCustomer → points c e ≡ true →
+      let t = dateOf (c .day) in
+      let s = dateOf (e .day) in
+      10000 * t .year + 100 * t .month + t .day < 10000 * (s .year + 5) + 100 * s .month + s .day
   in-period c e m n k p = omega (arith, demand3 cs .lawful .in-period c e m n k p)
 
   once : (x y z : History) (c d : Raw) → h ≡ x ++ c ∷ (y ++ d ∷ z) → kindOf (c .kind) ≡ kind.Correction → kindOf (d .kind) ≡ kind.Correction →

@@ -13,7 +13,7 @@ use Rattle.entries.specs.declared.kinds.Kind.{Kind}
 use Rattle.entries.specs.declared.kinds.Kind.the-variants as kind
 use Rattle.entries.proofs.Ranges.{both-true}
 use Rattle.entries.proofs.KindsLaws.{same-kind}
-use Rattle.history.specs.History.{periodEnd, History, lastSerial, naming, suits, points, names, Target, absent, present, find, Fate, postedFate, fateAfter, fate, paidBy, Amounts, judge, addedUp, givesBack}
+use Rattle.history.specs.History.{dated, refundEnd, History, lastSerial, naming, suits, points, names, Target, absent, present, find, Fate, postedFate, fateAfter, fate, paidBy, Amounts, judge, addedUp, givesBack}
 use Rattle.history.specs.Laws.{Valid, empty, joins, In, newest, older, Contributed, Again, Once, Each, HasContribution}
 use Rattle.history.proofs.Accept.{accepts, Role, alone, upon, role, accepts-upon}
 
@@ -250,9 +250,9 @@ pub names-points : (c x : Raw) → naming (kindOf (c .kind)) ≡ true → points
 unfolding names
 names-points c x k p = rw (k, p)
 
--- LAW: each added customer has its contribution, and a day in its period
+-- LAW: each added customer has its contribution, and a date in its period
 abbrev Refunded : History → Raw → Type 0
-Refunded h c = (w : Contributed h c) × (c .day < periodEnd (w .entry))
+Refunded h c = (w : Contributed h c) × (dated (c .day) < refundEnd (w .entry))
 
 refunded-new : {h : History} → Valid h → (r : Raw) → judge h r ≡ 0 → kindOf (r .kind) ≡ kind.AddedCustomer → Refunded h r
 refunded-new {h} v r j k = go (role h r j)
@@ -277,11 +277,11 @@ refunded (joins {r} {h} v j) c (newest q) k =
     subst (λ y. kindOf (y .kind) ≡ kind.AddedCustomer → Refunded (r ∷ h) y) q (λ k. with-newer r (refunded-new v r j k)) k
 refunded (joins v j) c (older t) k = with-newer c (refunded v c t k)
 
-pub in-period : {h : History} → Valid h → (c e : Raw) → In c h → In e h → kindOf (c .kind) ≡ kind.AddedCustomer → points c e ≡ true → c .day < periodEnd e
+pub in-period : {h : History} → Valid h → (c e : Raw) → In c h → In e h → kindOf (c .kind) ≡ kind.AddedCustomer → points c e ≡ true → dated (c .day) < refundEnd e
 in-period v c e m n k p =
     let w = refunded v c m k in
     let x = w .0 in
-    subst (λ (y : Raw). c .day < periodEnd y) (pointed-once v c (x .entry) e (x .member) n (x .aimed) p) (w .1)
+    subst (λ (y : Raw). dated (c .day) < refundEnd y) (pointed-once v c (x .entry) e (x .member) n (x .aimed) p) (w .1)
 
 -- LAW: no two corrections on one account name the same entry
 -- an entry that a correction of the history names is corrected

@@ -9,6 +9,7 @@ use lib.ListN.{length, getD}
 use lib.Dec.{eqb, leb, ltb}
 use borrow.Author.Tests.{eqb-true, eqb-false, ne-eqb, le-ltb, ltb-true, ltb-false, leb-true, leb-false}
 use Rattle.measures.specs.Cents.{cents, plusOf, most}
+use Rattle.measures.specs.Days.{lastDay}
 use Rattle.entries.specs.Kinds.{kindOf, sameOf, namesOf}
 use Rattle.entries.specs.Ranges.{between}
 use Rattle.entries.specs.Data.{noEntry, entryOf, pointsAt}
@@ -33,8 +34,9 @@ use Rattle.history.specs.Images.{newestOf}
 use Rattle.history.specs.Agreement.{accountIn, keptEntry, Placed, start, more, Agrees, keptLink, keptWalk}
 use Rattle.history.specs.Laws.{Valid}
 use Rattle.history.proofs.Accept.{fits}
+use Rattle.history.proofs.Names.{hit}
 use Rattle.history.proofs.Conserve.{total-filter}
-use Rattle.history.proofs.Bound.{paid-small}
+use Rattle.history.proofs.Bound.{in-book, paid-small}
 use Rattle.history.proofs.Tables.{Same, kept-read, rows, rowsFrom, own-same, missing-same, naming-same}
 
 abbrev pub placeOf : Target → Found
@@ -150,7 +152,6 @@ module _ {b : Book} {h : History} (w : Agrees b h) (v : Valid h) where
       go true = over
       go false = refl
 
-module _ {b : Book} {h : History} (w : Agrees b h) (m : length h ≤ entries) where
   pub lookup-same : (r : Raw) → between (r .account) 1 accounts ≡ true → Finds h (lookupOf b r) (named h r)
   unfolding lookupOf named startOf soughtIn
   lookup-same r t =
@@ -159,17 +160,17 @@ module _ {b : Book} {h : History} (w : Agrees b h) (m : length h ≤ entries) wh
       (go (naming (kindOf (r .kind))))
     where
       go : (t : Bool) → Finds h (soughtIn (pointsAt r) (walkOf (b .entries) entries (cond t (newestOf h (r .account)) 0))) (cond t (find h r) absent)
-      go true = rw (walk h (b .entries) (r .account) (w .rows) m entries m) (finds h h r)
+      go true = rw (walk h (b .entries) (r .account) (w .rows) (fits v) entries (fits v)) (finds h h r)
       go false = rw (walk-zero (b .entries) entries) neither
 
   -- what is left of the book's table after 1 to 7 is what is left of the history's
-  pub state-same : (r : Raw) → between (r .account) 1 accounts ≡ true → let k = kindOf (r .kind) in
+  pub state-same : (r : Raw) → between (r .account) 1 accounts ≡ true → r .day ≤ lastDay → let k = kindOf (r .kind) in
       Same (rows r k (accountAt b (r .account)) (namesOf k) (lookupOf b r))
       (rowsFrom 8 (refusals h r k (targetEntry (named h r)) (targetFate h (named h r)) (balance h (r .account))))
   unfolding named
-  state-same r t =
+  state-same r t d =
       let i = inside (r .account) 1 accounts t in
-      rw (w .account (r .account) (i .0) (i .1)) (go (naming k) refl (find h r) (lookup-same r t))
+      rw (w .account (r .account) (i .0) (i .1)) (go (naming k) refl (find h r) refl (lookup-same r t))
     where
       k : Kind
       k = kindOf (r .kind)
@@ -180,11 +181,11 @@ module _ {b : Book} {h : History} (w : Agrees b h) (m : length h ≤ entries) wh
       acc : Account
       acc = accountIn h (r .account)
 
-      go : (n : Bool) → naming k ≡ n → (s : Target) {x : chains.Sought} → Finds h x (cond n s absent) →
+      go : (n : Bool) → naming k ≡ n → (s : Target) → find h r ≡ s → {x : chains.Sought} → Finds h x (cond n s absent) →
           Same (rows r k acc n x) (rowsFrom 8 (refusals h r k (targetEntry (cond n s absent)) (targetFate h (cond n s absent)) bal))
-      go false n s f = own-same h r k bal (newestOf h (r .account)) n
-      go true n absent neither = missing-same h r k bal acc n
-      go true n (present i e) (both g) = naming-same h r k bal acc i g e n
+      go false n s q f = own-same h r k bal (newestOf h (r .account)) n
+      go true n absent q neither = missing-same h r k bal acc n
+      go true n (present i e) q (both g) = naming-same h r k bal acc i g e n (in-book v e (hit v r i e q .member)) d
 
   pub last-same : (r : Raw) → between (r .node) 1 2 ≡ true → lastOf (b .last) (r .node) ≡ lastSerial h (r .node)
   unfolding lastOf

@@ -1,15 +1,17 @@
 -- The book's table of refusals and the history's stop an entry by the same number.
 use mathlib.Core.Path.{_≡_, refl, sym, ap, _∙_}
-use Prim.Native.Nat.{ℕ, _+_}
+use Prim.Native.Nat.{ℕ, _≤_}
 use native.Mathlib.Omega.{arith}
 use mathlib.Core.Bool.{Bool, true, false, cond, not, _&&_, _||_, true≢false}
 use mathlib.Core.List.{List, [], _∷_, _++_}
 use lib.ListN.{length}
 use lib.Dec.{eqb, leb, ltb}
-use borrow.Author.Tests.{eqb-true, le-ltb, not-false}
+use borrow.Author.Tests.{eqb-true, ltb-false, lt-ltb, le-ltb, leb-true, leb-false, not-false}
 use Rattle.measures.specs.Cents.{cents}
-use Rattle.measures.specs.Days.{day}
+use Rattle.measures.specs.Days.{day, lastDay}
 use Rattle.measures.specs.declared.Cents.{Cents}
+use Rattle.calendar.specs.Periods.{yearsOn}
+use Rattle.calendar.proofs.Calendar.{calendar}
 use Rattle.entries.specs.Kinds.{kindOf, namesOf, misnamesOf, sameOf}
 use Rattle.entries.specs.Ranges.{between}
 use Rattle.entries.specs.Refusals.{refusalNumber, refuseIf, decidedOf}
@@ -31,8 +33,9 @@ use Rattle.changes.specs.declared.Decision.the-variants.{Refused, Accepted}
 use Rattle.rules.specs.declared.accounts.Account.{Account}
 use Rattle.book.specs.Chain as chains
 use Rattle.book.specs.Refusals.{entryRows, checkEntryOf, searchedOf, decisionBy}
-use Rattle.history.specs.History.{History, accounts, entries, namingGuarantee, naming, suits, lastSerial, absent, Fate, fate, guaranteeOpen, targetEntry, targetFate, Balance, Rule, firstBroken, refusals, toArrears, refundsPaid}
+use Rattle.history.specs.History.{History, accounts, entries, refundYears, guaranteeYears, dated, datedAfter, namingGuarantee, naming, suits, lastSerial, absent, Fate, fate, guaranteeOpen, targetEntry, targetFate, Balance, Rule, firstBroken, refusals, toArrears, refundsPaid}
 use Rattle.history.specs.Agreement.{keptAccount, keptData, keptEntry}
+use Rattle.history.proofs.Tests.{tested}
 use Rattle.history.proofs.Accept.{unsuited}
 use Rattle.entries.proofs.KindsLaws.{same-kind, no-kind}
 
@@ -102,17 +105,29 @@ own-day : (t : Bool) (x deposited : ℕ) → (t && ltb x deposited) ≡ ltb x (c
 own-day true x deposited = refl
 own-day false x deposited = sym (le-ltb x 0 (omega arith))
 
+-- a rule of kind m is the same where it reads the same of that kind
+kind-same : (m k : Kind) (p q : Bool) → (k ≡ m → p ≡ q) → (sameOf k m && p) ≡ (sameOf k m && q)
+kind-same m k p q e = go (sameOf k m) refl
+  where
+    go : (t : Bool) → sameOf k m ≡ t → (t && p) ≡ (t && q)
+    go true a = e (same-kind k m a)
+    go false a = refl
+
 -- a rule of kind m, which names entries of kind n alone, is the same where it reads the same of these
 suited-same : (m n : Kind) → ((l : Kind) → suits m l ≡ sameOf l n) → naming m ≡ true → (k l : Kind) (p q : Bool) → (l ≡ n → p ≡ q) →
     (naming k && not (suits k l)) ≡ false → (sameOf k m && p) ≡ (sameOf k m && q)
-suited-same m n only names k l p q e s = go (sameOf k m) refl
-  where
-    suited : k ≡ m → sameOf l n ≡ true
-    suited a = not-false _ (rw (a, names, only l) at s)
+suited-same m n only names k l p q e s = kind-same m k p q (λ a. e (same-kind l n (not-false _ (rw (a, names, only l) at s))))
 
-    go : (t : Bool) → sameOf k m ≡ t → (t && p) ≡ (t && q)
-    go true a = e (same-kind l n (suited (same-kind k m a)))
-    go false a = refl
+-- The book's end of a period is a day, the history's a date: a day has reached the one exactly when its date has reached the other.
+module _ (d e : ℕ) (from : d ≤ lastDay) (until : e ≤ lastDay) (n : ℕ) where
+  ended-same : leb (yearsOn n d) e ≡ leb (datedAfter n d) (dated e)
+  ended-same = calendar .reached n d e from until ∙ ap (λ x. leb x (dated e)) (omega arith)
+
+  running-same : ltb e (yearsOn n d) ≡ ltb (dated e) (datedAfter n d)
+  running-same = less e (yearsOn n d) ∙ ap not ended-same ∙ sym (less (dated e) (datedAfter n d))
+    where
+      less : (a b : ℕ) → ltb a b ≡ not (leb b a)
+      less a b = tested (λ t. ltb a b ≡ not t) (leb b a) (λ p. le-ltb a b (leb-true b a p)) (λ p. lt-ltb a b (leb-false b a p))
 
 -- what the rules read of an entry of a kind, as the history has it
 abbrev pub seenOf : Kind → Raw → Fate → Particulars
@@ -231,11 +246,13 @@ module _ (h : History) (r : Raw) (k : Kind) (b : Balance) where
       (stops, λ t. absurd (true≢false (stops ∙ t)))
 
   -- of an entry that names x, which the book keeps
-  pub naming-same : (acc : Account) (i : ℕ) (g : History) (x : Raw) → naming k ≡ true →
+  pub naming-same : (acc : Account) (i : ℕ) (g : History) (x : Raw) → naming k ≡ true → x .day ≤ lastDay → r .day ≤ lastDay →
       Same (rows r k acc true (chains.found i (keptEntry h g x))) (rowsFrom 8 (refusals h r k x (fate h x) b))
   unfolding entryOf
-  naming-same acc i g x n =
+  naming-same acc i g x n from until =
       let l = kindOf (x .kind) in
+      let ended = ended-same (x .day) (r .day) from until in
+      let running = running-same (x .day) (r .day) from until in
       let returned = naming-not k kind.DepositReturn true refl n in
       rw (kept-read l x (fate h x) (toArrears h x) (refundsPaid h x) .0) (
         rw n (misnames-same k l),
@@ -249,13 +266,13 @@ module _ (h : History) (r : Raw) (k : Kind) (b : Balance) where
                   λ t. (
                     refl,
                     λ t. (
-                      refl,
+                      kind-same kind.AddedCustomer k _ _ (λ a. rw a (ended refundYears)),
                       λ t. (
-                        refl,
+                        kind-same kind.Expiry k _ _ (λ a. rw a (running refundYears)),
                         λ t. (
                           suited-same kind.Reduction kind.Guarantee (λ l. refl) refl k l _ _ (λ l. rw l) suited,
                           λ t. (
-                            refl,
+                            kind-same kind.Retention k _ _ (λ a. rw a (running guaranteeYears)),
                             λ t. (
                               added _ _ (λ l. rw l) suited,
                               λ t. (
@@ -276,7 +293,7 @@ module _ (h : History) (r : Raw) (k : Kind) (b : Balance) where
 -- the two tables as a whole
 module _ (h : History) (r : Raw) (k : Kind) (count last : ℕ) (rest : List checks.Row) (x : Raw) (f : Fate) (b : Balance) (counted : count ≡ length h)
     (lasts : between (r .node) 1 2 ≡ true → last ≡ lastSerial h (r .node))
-    (state : between (r .account) 1 accounts ≡ true → Same rest (rowsFrom 8 (refusals h r k x f b))) where
+    (state : between (r .account) 1 accounts ≡ true → r .day ≤ lastDay → Same rest (rowsFrom 8 (refusals h r k x f b))) where
   pub check-same : checkNumber (checks.checkRows check.Passed (entryRows r k count last ++ rest)) ≡ firstBroken (refusals h r k x f b)
   check-same =
       first-same (entryRows r k count last ++ rest) (refusals h r k x f b) (
@@ -287,12 +304,12 @@ module _ (h : History) (r : Raw) (k : Kind) (count last : ℕ) (rest : List chec
             refl,
             λ account. (
               refl,
-              λ t. (
+              λ day. (
                 refl,
                 λ t. (
                   ap (λ n. leb (r .serial) n) (lasts (not-false _ node)),
                   λ t.
-                      (ap (λ n. leb entries n) counted, λ t. state (not-false _ account)),
+                      (ap (λ n. leb entries n) counted, λ t. state (not-false _ account) (ltb-false _ _ day)),
                 ),
               ),
             ),

@@ -1,4 +1,5 @@
--- Figures of guarantees, worked out by hand: lists of entries, each offered in turn from the empty history on, and what is replied.
+-- Figures of guarantees and of periods, worked out by hand: lists of entries, each offered in turn from the empty history on, and what
+-- is replied.
 use Prim.Native.Nat.{ℕ, _+_, min}
 use mathlib.Core.Path.{_≡_}
 use mathlib.Core.List.{List, [], _∷_, map}
@@ -28,6 +29,16 @@ bill day amount = entry 1 3 day amount 30 30 0
 
 abbrev payment : ℕ → ℕ → ℕ → Raw
 payment day amount = entry 1 4 day amount 0 0 0
+
+-- 1,000 for 10 m of one phase, and a customer who shares them
+abbrev contribution : ℕ → ℕ → Raw
+contribution day = entry 1 1 day 1000 10 1 0
+
+abbrev customer : ℕ → ℕ → ℕ → Raw
+customer day named = entry 1 2 day 0 10 1 named
+
+abbrev expiry : ℕ → ℕ → ℕ → Raw
+expiry day named = entry 1 7 day 0 0 0 named
 
 abbrev correction : ℕ → ℕ → ℕ → ℕ → Raw
 correction day named amount = entry 1 8 day amount 0 0 named
@@ -98,7 +109,7 @@ tenths =
     (reduction 1560 1 gives accepted 0 0 0) ∷
     (reduction 1924 1 gives refused 25) ∷
     (reduction 1925 1 gives accepted 0 0 0) ∷
-    -- 26 at 1,825 days
+    -- 26 on the day before the end
     (retention 1925 1 gives refused 26) ∷
     (retention 1926 1 gives accepted 0 0 0) ∷
     -- closed: 11 before 25 and 26; the next guarantee is another
@@ -124,7 +135,7 @@ owing =
     (payment 600 1000 gives accepted 1000 0 0) ∷
     (reduction 730 1 gives accepted 100 0 0) ∷
     -- the rest is retained, 43,900 of 50,000, though 3,900 are owed
-    (retention 1826 1 gives accepted 0 0 43900) ∷
+    (retention 1827 1 gives accepted 0 0 43900) ∷
     []
 
 -- payments as they stand at the posting, by their own days
@@ -153,7 +164,7 @@ small =
     (payment 1000 9 gives joins) ∷
     (payment 1001 10 gives joins) ∷
     (reduction 1095 1 gives accepted 0 1 0) ∷
-    (retention 1826 1 gives accepted 0 0 98) ∷
+    (retention 1827 1 gives accepted 0 0 98) ∷
     []
 
 -- what is named, and fields
@@ -178,10 +189,56 @@ naming =
     (entry 1 12 0 0 0 0 0 gives refused 1) ∷
     []
 
+-- five calendar years, on the day before their end and on it
+abbrev pub periods : List Figure
+periods =
+    -- from day 0, 2000-01-01, to 1,827, 2005-01-01
+    (contribution 0 gives joins) ∷
+    (customer 1826 1 gives accepted 0 500 0) ∷
+    (expiry 1826 1 gives refused 13) ∷
+    (customer 1827 1 gives refused 12) ∷
+    (expiry 1827 1 gives accepted 0 0 500) ∷
+    (guarantee 0 100 gives joins) ∷
+    (retention 1826 6 gives refused 26) ∷
+    (retention 1827 6 gives accepted 0 0 100) ∷
+    -- from 59, 2000-02-29, to 1,886, 2005-03-01, and from the day before to 1,885
+    (guarantee 59 100 gives joins) ∷
+    (retention 1885 9 gives refused 26) ∷
+    (retention 1886 9 gives accepted 0 0 100) ∷
+    (contribution 59 gives joins) ∷
+    (customer 1885 12 gives accepted 0 500 0) ∷
+    (customer 1886 12 gives refused 12) ∷
+    (expiry 1886 12 gives accepted 0 0 500) ∷
+    (contribution 58 gives joins) ∷
+    (expiry 1884 16 gives refused 13) ∷
+    (customer 1885 16 gives refused 12) ∷
+    -- from 34,698, 2094-12-31, to the last day
+    (contribution 34698 gives joins) ∷
+    (customer 36523 19 gives accepted 0 500 0) ∷
+    (expiry 36523 19 gives refused 13) ∷
+    (customer 36524 19 gives refused 12) ∷
+    (expiry 36524 19 gives accepted 0 0 500) ∷
+    -- from 34,699, 2095-01-01, and from the last day: they don't end
+    (contribution 34699 gives joins) ∷
+    (expiry 36524 24 gives refused 13) ∷
+    (customer 36524 24 gives accepted 0 500 0) ∷
+    (contribution 36524 gives joins) ∷
+    (expiry 36524 27 gives refused 13) ∷
+    -- guarantees: from 58, to the last day, and one that doesn't end
+    (guarantee 58 100 gives joins) ∷
+    (retention 1884 29 gives refused 26) ∷
+    (retention 1885 29 gives accepted 0 0 100) ∷
+    (guarantee 34698 100 gives joins) ∷
+    (retention 36523 32 gives refused 26) ∷
+    (retention 36524 32 gives accepted 0 0 100) ∷
+    (guarantee 34699 100 gives joins) ∷
+    (retention 36524 35 gives refused 26) ∷
+    []
+
 abbrev pub AllGiven : List (List Figure) → Type 0
 AllGiven [] = Unit {0}
 AllGiven (fs ∷ rest) = (replies fs ≡ map (λ (f : Figure). f .reply) fs) × AllGiven rest
 
 -- the lemma; proofs/Guarantees.antt shows it
 abbrev pub Guarantees : Type 0
-Guarantees = AllGiven (tenths ∷ owing ∷ standing ∷ small ∷ naming ∷ [])
+Guarantees = AllGiven (tenths ∷ owing ∷ standing ∷ small ∷ naming ∷ periods ∷ [])

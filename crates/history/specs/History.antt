@@ -1,10 +1,11 @@
 -- The history (document 01, "History"): the entries that joined, and what is read off their list alone.
 -- Nothing here reads a book. All numbers are plain ones: no sum stops at a limit.
-use Prim.Native.Nat.{ℕ, zero, suc, _+_, _-_}
+use Prim.Native.Nat.{ℕ, zero, suc, _+_, _-_, _*_}
 use mathlib.Core.Bool.{Bool, true, false, cond, not, _&&_, _||_}
 use mathlib.Core.List.{List, [], _∷_, _++_, foldl}
 use lib.ListN.{length, drop}
 use lib.Dec.{eqb, leb, ltb}
+use Rattle.calendar.specs.Dates.{dateOf, yyyymmdd}
 use Rattle.entries.specs.Kinds.{kindOf, sameOf}
 use Rattle.entries.specs.Ranges.{between, inRangeOf}
 use Rattle.entries.specs.declared.raw.Raw.{Raw}
@@ -26,13 +27,29 @@ entries = 1024
 abbrev pub lastDay : ℕ
 lastDay = 36524
 
--- the days from a contribution on in which added customers bring refunds
-abbrev pub refundPeriod : ℕ
-refundPeriod = 1826
+-- the calendar years from a contribution on in which added customers bring refunds
+abbrev pub refundYears : ℕ
+refundYears = 5
 
--- the first day on which a contribution e brings none any more
-abbrev pub periodEnd : Raw → ℕ
-periodEnd e = e .day + refundPeriod
+-- the calendar years from a guarantee on after which its rest may be retained
+abbrev pub guaranteeYears : ℕ
+guaranteeYears = 5
+
+-- the date of a day, as the number that it is written as: 20000101 for day 0
+abbrev pub dated : ℕ → ℕ
+dated d = yyyymmdd (dateOf d)
+
+-- The same date so many years on. Written so, 29 February of a common year lies between 28 February and 1 March, the first date that
+-- reaches it; a year past 2099 is reached by no day of the book.
+abbrev pub datedAfter : ℕ → ℕ → ℕ
+datedAfter years d = dated d + 10000 * years
+
+-- the date from which on a contribution e brings no refunds, and from which on a guarantee e may be retained
+abbrev pub refundEnd : Raw → ℕ
+refundEnd e = datedAfter refundYears (e .day)
+
+abbrev pub guaranteeEnd : Raw → ℕ
+guaranteeEnd e = datedAfter guaranteeYears (e .day)
 
 -- the days whose payments a reduction counts, its own the last of them
 abbrev pub windowDays : ℕ
@@ -41,10 +58,6 @@ windowDays = 365
 -- the days from a guarantee, or from a reduction of it, to its next reduction
 abbrev pub reductionInterval : ℕ
 reductionInterval = 365
-
--- the days from a guarantee on after which its rest may be retained
-abbrev pub guaranteePeriod : ℕ
-guaranteePeriod = 1826
 
 -- the list, newest first: document 01's end of the list is the head here
 abbrev pub History : Type 0
@@ -307,10 +320,10 @@ refusals h r k e f b =
     (sameOf k kind.Guarantee && guaranteeOpen h (r .account) ⇒ 24) ∷
     (ltb (r .day) (cond (sameOf k kind.DepositReturn) (b .deposited) (e .day)) ⇒ 10) ∷
     ((sameOf l kind.Contribution || sameOf l kind.Guarantee) && f .closed ⇒ 11) ∷
-    (sameOf k kind.AddedCustomer && leb (periodEnd e) (r .day) ⇒ 12) ∷
-    (sameOf k kind.Expiry && ltb (r .day) (periodEnd e) ⇒ 13) ∷
+    (sameOf k kind.AddedCustomer && leb (refundEnd e) (dated (r .day)) ⇒ 12) ∷
+    (sameOf k kind.Expiry && ltb (dated (r .day)) (refundEnd e) ⇒ 13) ∷
     (sameOf k kind.Reduction && ltb (r .day) (f .reduced + reductionInterval) ⇒ 25) ∷
-    (sameOf k kind.Retention && ltb (r .day) (e .day + guaranteePeriod) ⇒ 26) ∷
+    (sameOf k kind.Retention && ltb (dated (r .day)) (guaranteeEnd e) ⇒ 26) ∷
     (sameOf k kind.AddedCustomer && (eqb (r .b) 1 && eqb (e .b) 3) ⇒ 14) ∷
     (sameOf k kind.AddedCustomer && ltb (e .a) (r .a) ⇒ 15) ∷
     ((sameOf l kind.Bill || sameOf l kind.Payment) && f .corrected ⇒ 16) ∷ []

@@ -8,7 +8,7 @@ use Rattle.entries.specs.Kinds.{kindOf}
 use Rattle.entries.specs.declared.raw.Raw.{Raw}
 use Rattle.entries.specs.declared.kinds.Kind.{Kind}
 use Rattle.entries.specs.declared.kinds.Kind.the-variants as kind
-use Rattle.history.specs.History.{History, Amounts, entries, periodEnd, points, fate, total, paidBy, openGuarantees, Balance, balance, amounts, judge, offers, onAccount, entriesOf, Reading, amountOf, standingAmount, heldOf, heldAmount, addedUp, settledBy, paidOutBy, customers}
+use Rattle.history.specs.History.{History, Amounts, entries, dated, refundEnd, points, fate, total, paidBy, openGuarantees, Balance, balance, amounts, judge, offers, onAccount, entriesOf, Reading, amountOf, standingAmount, heldOf, heldAmount, addedUp, settledBy, paidOutBy, customers}
 
 -- the histories that offers give: no refusal stopped any entry, read against those before it
 pub data Valid : History → Type 0 where
@@ -125,9 +125,9 @@ pub record Lawful (h : History) : Type 0 where
   -- each reduction, and that at most one guarantee of an account is open
   pub reductions : Each Reduces h
   pub one-open : (a : ℕ) → openGuarantees h a ≤ 1
-  -- refunds are the added customers, with their days: each has its contribution, and none is 1,826 days or more after it
+  -- refunds are the added customers, with their days: each has its contribution, and is dated before the same date five years after it
   pub contributed : Each HasContribution h
-  pub in-period : (c e : Raw) → In c h → In e h → kindOf (c .kind) ≡ kind.AddedCustomer → points c e ≡ true → c .day < periodEnd e
+  pub in-period : (c e : Raw) → In c h → In e h → kindOf (c .kind) ≡ kind.AddedCustomer → points c e ≡ true → dated (c .day) < refundEnd e
   -- no two corrections on one account name the same entry
   pub once : Each Once h
 

@@ -113,7 +113,7 @@ witness =
     -- a tenth of the payments is given back after 365 days, to arrears first
     (posting (entry 10 1 7 464 27 0 0 0 23) gives refused 25) ∷
     (posting (entry 10 1 7 465 27 0 0 0 23) gives accepted 28 1000 6000 0 0) ∷
-    -- the rest is retained after 1,826 days; the next guarantee, of 700, stays held, and a statement's held is of contributions alone
+    -- the rest is retained after five years; the next guarantee, of 700, stays held, and a statement's held is of contributions alone
     (posting (entry 11 1 7 1925 28 0 0 0 23) gives refused 26) ∷
     (posting (entry 11 1 7 1926 28 0 0 0 23) gives accepted 29 0 0 13000 0) ∷
     (posting (entry 10 1 7 1926 29 0 0 0 23) gives refused 11) ∷

@@ -1,10 +1,11 @@
 -- The refusals that the account and the named entry decide, in checking order: 8 to 16, 24 beside 9, 25 and 26 after 13.
 use Prim.Native.Nat.{ℕ, _+_}
-use mathlib.Core.Bool.{Bool, _&&_, _||_}
+use mathlib.Core.Bool.{Bool, cond, _&&_, _||_}
 use mathlib.Core.List.{List, [], _∷_}
 use lib.Dec.{eqb, leb, ltb}
 use Rattle.measures.specs.declared.Cents.{Cents}
 use Rattle.measures.specs.declared.Day.{Day}
+use Rattle.calendar.specs.Periods.{yearsOn}
 use Rattle.entries.specs.Kinds.{sameOf, misnamesOf}
 use Rattle.entries.specs.Refusals.{Row, _⇒_, checkRows}
 use Rattle.entries.specs.Data.{particularsOf}
@@ -17,13 +18,21 @@ use Rattle.entries.specs.declared.refusals.Check.{Check}
 use Rattle.entries.specs.declared.refusals.Check.the-variants as check
 use Rattle.rules.specs.declared.accounts.Account.{Account}
 
--- the days from a contribution on in which added customers bring refunds
-abbrev pub refundPeriod : ℕ
-refundPeriod = 1826
+-- the calendar years from a contribution on in which added customers bring refunds
+abbrev pub refundYears : ℕ
+refundYears = 5
 
--- the first day on which a contribution of a day brings none any more
-abbrev pub periodEnd : Day → ℕ
-periodEnd contributed = contributed .0 + refundPeriod
+-- the calendar years from a guarantee on after which its rest may be retained
+abbrev pub guaranteeYears : ℕ
+guaranteeYears = 5
+
+-- a retention is judged by the guarantee's period, an added customer and an expiry by the contribution's
+abbrev pub periodYears : Kind → ℕ
+periodYears k = cond (sameOf k kind.Retention) guaranteeYears refundYears
+
+-- the day on which it ends, from the day of the named entry
+abbrev pub periodEnd : Kind → Day → ℕ
+periodEnd k named = yearsOn (periodYears k) (named .0)
 
 -- the days from a guarantee, or from a reduction of it, to its next reduction
 abbrev pub reductionInterval : ℕ
@@ -32,14 +41,6 @@ reductionInterval = 365
 -- the first day on which a guarantee may be reduced, where it was given or last reduced on a day
 abbrev pub nextReduction : Day → ℕ
 nextReduction reduced = reduced .0 + reductionInterval
-
--- the days from a guarantee on after which its rest may be retained
-abbrev pub guaranteePeriod : ℕ
-guaranteePeriod = 1826
-
--- the first day on which the rest of a guarantee of a day may be retained
-abbrev pub guaranteeEnd : Day → ℕ
-guaranteeEnd given = given .0 + guaranteePeriod
 
 -- a deposit comes while one is held, or a return while none is; a deposit is held while its amount is above 0
 abbrev pub depositClash : Kind → Cents → Bool
@@ -60,10 +61,10 @@ namingRows r k e =
     (misnamesOf k (n .kind) ⇒ no.NotOnChain) ∷
     (ltb (r .day) (e .day .0) ⇒ no.DayBefore) ∷
     (n .closed ⇒ no.Closed) ∷
-    (sameOf k kind.AddedCustomer && leb (periodEnd (e .day)) (r .day) ⇒ no.PeriodOver) ∷
-    (sameOf k kind.Expiry && ltb (r .day) (periodEnd (e .day)) ⇒ no.PeriodRunning) ∷
+    (sameOf k kind.AddedCustomer && leb (periodEnd k (e .day)) (r .day) ⇒ no.PeriodOver) ∷
+    (sameOf k kind.Expiry && ltb (r .day) (periodEnd k (e .day)) ⇒ no.PeriodRunning) ∷
     (sameOf k kind.Reduction && ltb (r .day) (nextReduction (n .reduced)) ⇒ no.ReductionEarly) ∷
-    (sameOf k kind.Retention && ltb (r .day) (guaranteeEnd (e .day)) ⇒ no.RetentionEarly) ∷
+    (sameOf k kind.Retention && ltb (r .day) (periodEnd k (e .day)) ⇒ no.RetentionEarly) ∷
     (sameOf k kind.AddedCustomer && (eqb (r .b) 1 && eqb (n .phases) 3) ⇒ no.OnePhase) ∷
     (sameOf k kind.AddedCustomer && ltb (n .built .0) (r .a) ⇒ no.MetresExceeded) ∷
     (n .corrected ⇒ no.CorrectedBefore) ∷

@@ -1,5 +1,6 @@
 // The refusals that the account and the named entry decide: 8 to 16, and 24 to 26.
 use crate::accounts::Account;
+use calendar::years_on;
 use entries::Check;
 use entries::Entry;
 use entries::Kind;
@@ -10,16 +11,23 @@ use entries::either;
 use measures::Cents;
 use measures::Day;
 ghost use mathlib.Core.Path.{_≡_};
-ghost use Rattle.rules.specs.Checks.{periodEnd, nextReduction, guaranteeEnd, depositClash, checkOwnOf, checkNamingOf};
+ghost use Rattle.rules.specs.Checks.{periodYears, nextReduction, depositClash, checkOwnOf, checkNamingOf};
 
-// The days from a contribution on in which added customers bring refunds; an expiry comes after them.
-const REFUND_PERIOD: u16 = 1826;
+// The calendar years from a contribution on in which added customers bring refunds; an expiry comes after them.
+const REFUND_YEARS: u8 = 5;
 
-// The first day on which a contribution of a day brings no refund any more.
-fn period_end(contributed: Day) -> u32
-    ensures { λ r. ⌜ r ≡ periodEnd contributed ⌝ }
+// The calendar years from a guarantee on after which its rest may be retained.
+const GUARANTEE_YEARS: u8 = 5;
+
+// The years of the period by which an entry of a kind is judged: a guarantee's for a retention, else a contribution's.
+fn period_years(kind: Kind) -> u8
+    ensures { λ r. ⌜ r ≡ periodYears kind ⌝ }
 {
-    contributed.0 as u32 + REFUND_PERIOD as u32
+    if kind.is(Kind::Retention) {
+        GUARANTEE_YEARS
+    } else {
+        REFUND_YEARS
+    }
 }
 
 // The days from a guarantee, or from a reduction of it, to its next reduction.
@@ -30,16 +38,6 @@ fn next_reduction(reduced: Day) -> u32
     ensures { λ r. ⌜ r ≡ nextReduction reduced ⌝ }
 {
     reduced.0 as u32 + REDUCTION_INTERVAL as u32
-}
-
-// The days from a guarantee on after which its rest may be retained.
-const GUARANTEE_PERIOD: u16 = 1826;
-
-// The first day on which the rest of a guarantee of a day may be retained.
-fn guarantee_end(given: Day) -> u32
-    ensures { λ r. ⌜ r ≡ guaranteeEnd given ⌝ }
-{
-    given.0 as u32 + GUARANTEE_PERIOD as u32
 }
 
 // A deposit comes while one is held, or a return while none is.
@@ -76,28 +74,27 @@ pub fn check_naming(raw: Raw, kind: Kind, entry: Entry) -> Check
     let data = entry.data;
     let particulars = data.particulars();
     let named_kind = particulars.kind;
-    let day = raw.day as u32;
-    let end = period_end(entry.day);
+    let end = years_on(entry.day, period_years(kind)).0;
     let added = kind.is(Kind::AddedCustomer);
     let one_to_three = both(raw.b == 1, particulars.phases == 3);
     Check::Passed
         .refuse_if(kind.misnames(named_kind), Refusal::NotOnChain)
         .refuse_if(raw.day < entry.day.0, Refusal::DayBefore)
         .refuse_if(particulars.closed, Refusal::Closed)
-        .refuse_if(both(added, end <= day), Refusal::PeriodOver)
+        .refuse_if(both(added, end <= raw.day), Refusal::PeriodOver)
         .refuse_if(
-            both(kind.is(Kind::Expiry), day < end),
+            both(kind.is(Kind::Expiry), raw.day < end),
             Refusal::PeriodRunning,
         )
         .refuse_if(
             both(
                 kind.is(Kind::Reduction),
-                day < next_reduction(particulars.reduced),
+                (raw.day as u32) < next_reduction(particulars.reduced),
             ),
             Refusal::ReductionEarly,
         )
         .refuse_if(
-            both(kind.is(Kind::Retention), day < guarantee_end(entry.day)),
+            both(kind.is(Kind::Retention), raw.day < end),
             Refusal::RetentionEarly,
         )
         .refuse_if(both(added, one_to_three), Refusal::OnePhase)

@@ -75,6 +75,11 @@ fn in_range(raw: &Raw) -> bool {
     }
 }
 
+/// Whether the entry's period of so many years has ended on this day.
+fn has_ended(entry: &Entry, years: u16, day: u16) -> bool {
+    years_on(entry.raw.day, years).is_some_and(|end| day >= end)
+}
+
 impl Book {
     /// What a posting of the entry is refused by, or 0.
     pub fn refusal(&self, raw: &Raw) -> u8 {
@@ -107,7 +112,7 @@ impl Book {
         let contribution = &self.entries[place];
         refuse(raw.day < contribution.raw.day, 10)?;
         refuse(contribution.closed, 11)?;
-        refuse(raw.day - contribution.raw.day >= REFUND_PERIOD, 12)?;
+        refuse(has_ended(contribution, REFUND_YEARS, raw.day), 12)?;
         refuse(raw.b == 1 && contribution.raw.b == 3, 14)?;
         refuse(raw.a > contribution.raw.a, 15)?;
         Ok(Accepted::AddedCustomer(place))
@@ -130,7 +135,7 @@ impl Book {
         let contribution = &self.entries[place];
         refuse(raw.day < contribution.raw.day, 10)?;
         refuse(contribution.closed, 11)?;
-        refuse(raw.day - contribution.raw.day < REFUND_PERIOD, 13)?;
+        refuse(!has_ended(contribution, REFUND_YEARS, raw.day), 13)?;
         Ok(Accepted::Expiry(place))
     }
 
@@ -161,7 +166,7 @@ impl Book {
         let guarantee = &self.entries[place];
         refuse(raw.day < guarantee.raw.day, 10)?;
         refuse(guarantee.closed, 11)?;
-        refuse(raw.day - guarantee.raw.day < GUARANTEE_PERIOD, 26)?;
+        refuse(!has_ended(guarantee, GUARANTEE_YEARS, raw.day), 26)?;
         Ok(Accepted::Retention(place))
     }
 

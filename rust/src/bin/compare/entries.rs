@@ -2,6 +2,7 @@
 //! that they name.
 
 use crate::history::History;
+use crate::periods;
 use crate::random::Random;
 use contribution_book::plain::*;
 
@@ -10,6 +11,15 @@ const HALF_CENT: u32 = 1_825_000;
 const HALF_RATES: [u16; 5] = [1, 8, 100, 1_000, 1_825];
 /// How many entries are drawn for one of a given refusal number.
 const DRAWS: usize = 128;
+/// 2020-01-01.
+const TWENTY_YEARS: u16 = 7_305;
+/// 2095-01-01, the first day from which five years don't end within the book.
+const FIRST_WITHOUT_END: u16 = 34_699;
+/// 2000-02-29, the days from one 29 February to the next, and how many the book
+/// has.
+const LEAP_DAY: u16 = 59;
+const LEAP_DAYS_APART: u16 = 1_461;
+const LEAP_DAYS: u16 = 25;
 
 /// What a posting can be refused by.
 pub const REFUSALS: [u8; 19] = [
@@ -86,7 +96,7 @@ pub fn entry(random: &mut Random, pool: &Pool, history: &History) -> Raw {
     let earlier = earlier(random, history, kind, account);
     let day = match earlier {
         Some(earlier) => day_from(random, kind, counted_from(history, kind, earlier)),
-        None => any_day(random),
+        None => first_day(random, kind),
     };
     let mut raw = Raw {
         kind,
@@ -151,32 +161,73 @@ fn counted_from(history: &History, kind: u8, earlier: Raw) -> u16 {
     }
 }
 
+/// The day of an entry that is about no earlier one.
+fn first_day(random: &mut Random, kind: u8) -> u16 {
+    match kind {
+        CONTRIBUTION | GUARANTEE if !random.one_in(3) => period_start(random),
+        _ => any_day(random),
+    }
+}
+
 fn any_day(random: &mut Random) -> u16 {
     match random.below(4) {
         0 => random.pick(&[0, 1, LAST_DAY - 1, LAST_DAY]),
         1 => random.within(0..=LAST_DAY),
-        _ => random.within(0..=4 * REFUND_PERIOD),
+        _ => random.within(0..=TWENTY_YEARS),
+    }
+}
+
+/// A 29 February, or a day from which a period has 1,827 days or doesn't end, or
+/// one beside these.
+fn period_start(random: &mut Random) -> u16 {
+    let leap_day = LEAP_DAY + LEAP_DAYS_APART * random.within(0..=LEAP_DAYS - 1);
+    match random.below(16) {
+        0 => random.pick(&[FIRST_WITHOUT_END - 1, FIRST_WITHOUT_END]),
+        1 => random.within(FIRST_WITHOUT_END..=LAST_DAY),
+        2 => leap_day + 1,
+        // From 1 March of the year before to 29 February they have 1,827 days.
+        3 | 4 => leap_day.saturating_sub(random.pick(&[1, 365, 366])),
+        5..=8 => leap_day.saturating_sub(random.within(1..=365)),
+        _ => leap_day,
     }
 }
 
 /// A day before or after that of the earlier entry.
 fn day_from(random: &mut Random, kind: u8, earlier: u16) -> u16 {
-    let year = REDUCTION_INTERVAL;
-    let edges = match kind {
-        PAYMENT | REDUCTION => [0, 1, year - 1, year, year + 1],
-        _ => [0, 1, REFUND_PERIOD - 1, REFUND_PERIOD, REFUND_PERIOD + 1],
-    };
     let day = match random.below(8) {
         0 => return random.within(0..=earlier),
         1 => random.within(earlier..=LAST_DAY),
-        2 | 3 => earlier + random.pick(&edges),
         _ => match kind {
-            EXPIRY | RETENTION => earlier + REFUND_PERIOD + random.within(0..=REFUND_PERIOD),
-            PAYMENT | REDUCTION => earlier + random.within(0..=2 * year),
-            _ => earlier + random.within(0..=REFUND_PERIOD - 1),
+            PAYMENT | REDUCTION => day_of_two_years(random, earlier),
+            _ => day_of_period(random, kind, earlier),
         },
     };
     day.min(LAST_DAY)
+}
+
+/// A day of the two years that begin on this one, sometimes where the first ends.
+fn day_of_two_years(random: &mut Random, first: u16) -> u16 {
+    let year = REDUCTION_INTERVAL;
+    let days = match random.below(3) {
+        0 => random.pick(&[0, 1, year - 1, year, year + 1]),
+        _ => random.within(0..=2 * year),
+    };
+    first + days
+}
+
+/// A day of the period that begins on this one, often its last, or its end; for
+/// an expiry or a retention mostly one from the end on. Where it doesn't end, its
+/// last day is the book's.
+fn day_of_period(random: &mut Random, kind: u8, first: u16) -> u16 {
+    let end = periods::end(kind, first).unwrap_or(LAST_DAY + 1);
+    match random.below(6) {
+        0 => random.pick(&[first, first + 1, end + 1]),
+        1..=3 => random.pick(&[end - 1, end]),
+        _ => match kind {
+            EXPIRY | RETENTION => end + random.within(0..=end - first),
+            _ => random.within(first..=end - 1),
+        },
+    }
 }
 
 /// A serial above the node's last, where there is one.

@@ -13,6 +13,8 @@ pub struct Expected {
     pub after: Call,
     pub refusal: u8,
     pub image_refused: bool,
+    /// The record at fault in a refused image, or 0.
+    pub record: u16,
 }
 
 /// What a request gives, or its refusal number.
@@ -27,6 +29,7 @@ pub fn expected(call: &Call) -> Expected {
         after,
         refusal: given.err().unwrap_or(0),
         image_refused: image_refusal != 0,
+        record,
     }
 }
 

@@ -12,6 +12,7 @@ mod halves;
 mod history;
 mod images;
 mod list;
+mod periods;
 mod random;
 mod tally;
 #[cfg(test)]

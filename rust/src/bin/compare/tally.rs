@@ -1,14 +1,15 @@
-//! What was tried: calls, images and entries by kind and by refusal number, and
-//! entries at a half.
+//! What was tried: calls, images and entries by kind and by refusal number,
+//! entries at a half, and entries at the end of a period.
 
 use crate::call::{Call, Request, KINDS};
 use crate::expected::Expected;
+use crate::periods::{self, Period};
 use crate::{halves, images};
-use contribution_book::plain::{parse_record, Raw, ENTRIES, LAST_KIND, RECORD};
+use contribution_book::plain::{parse_record, Raw, ADDED_CUSTOMER, ENTRIES, LAST_KIND, RECORD};
 use std::fmt;
 
 /// How often each refusal number that can be given has to be met, and each
-/// kind of entry accepted, also at a half.
+/// kind of entry accepted, also at a half and at the end of a period.
 const LEAST: u64 = 100;
 /// How many calls have to be compared.
 const LEAST_CALLS: u64 = 100_000;
@@ -92,6 +93,12 @@ impl Met {
 type Judged = [u64; 2];
 const JUDGED: [&str; 2] = ["accepted", "refused"];
 
+/// How often entries at the end of a period were accepted, were refused for
+/// their day, and made an image refused for it.
+type AtEnd = [u64; 3];
+const AT_END: [&str; 3] = ["accepted", "refused", "in image"];
+const IN_IMAGE: usize = 2;
+
 pub struct Tally {
     /// The images of each kind of call.
     images: [Met; KINDS.len()],
@@ -106,6 +113,8 @@ pub struct Tally {
     entry_kinds: [Judged; ENTRY_KINDS.len()],
     /// Of these, the accepted ones at a half, by whole cents before it: even, odd.
     halves: [[u64; 2]; ENTRY_KINDS.len()],
+    /// Entries at the end of each of `Period::ALL`, by `periods::KINDS`.
+    ends: [[AtEnd; periods::KINDS.len()]; Period::ALL.len()],
 }
 
 impl Tally {
@@ -118,6 +127,7 @@ impl Tally {
             sizes: [0; SIZES.len()],
             entry_kinds: [[0; 2]; ENTRY_KINDS.len()],
             halves: [[0; 2]; ENTRY_KINDS.len()],
+            ends: [[[0; 3]; periods::KINDS.len()]; Period::ALL.len()],
         }
     }
 
@@ -132,12 +142,22 @@ impl Tally {
         self.image_kinds[call.image_kind as usize][usize::from(expected.image_refused)] += 1;
         if expected.image_refused {
             self.images[kind].add(expected.refusal);
+            self.count_fault(call.image.bytes(), expected);
             return;
         }
         self.images[kind].add(0);
         self.sizes[size(call.image.bytes().len() / RECORD - 1)] += 1;
         self.calls[kind].add(expected.refusal);
         self.count_entries(call, expected.refusal);
+    }
+
+    /// Counts the record at fault in a refused image.
+    fn count_fault(&mut self, image: &[u8], expected: &Expected) {
+        if let Some(place) = usize::from(expected.record).checked_sub(1) {
+            let entries = images::entries_of(image);
+            let (before, from) = entries.split_at(place);
+            self.count_end(&from[0], before, expected.refusal, IN_IMAGE);
+        }
     }
 
     /// Counts the entries that an accepted image was offered.
@@ -163,7 +183,9 @@ impl Tally {
         let raw = parse_record(record).0;
         let kind = usize::from(raw.kind);
         let row = if kind < ENTRY_KINDS.len() { kind } else { 0 };
-        self.entry_kinds[row][usize::from(refusal != 0)] += 1;
+        let judged = usize::from(refusal != 0);
+        self.entry_kinds[row][judged] += 1;
+        self.count_end(&raw, before, refusal, judged);
         if refusal != 0 {
             return;
         }
@@ -171,6 +193,18 @@ impl Tally {
             self.halves[row][(whole % 2) as usize] += 1;
         }
         before.push(raw);
+    }
+
+    /// Counts an entry that is accepted or refused for its day at the end of a
+    /// period.
+    fn count_end(&mut self, raw: &Raw, before: &[Raw], refusal: u8, column: usize) {
+        let decides = |&(kind, number)| raw.kind == kind && [0, number].contains(&refusal);
+        let Some(row) = periods::KINDS.iter().position(decides) else {
+            return;
+        };
+        if let Some(period) = periods::ending_at(raw, before) {
+            self.ends[period as usize][row][column] += 1;
+        }
     }
 
     /// What was not tried often enough, a line for each.
@@ -211,8 +245,30 @@ impl Tally {
             let [even, odd] = self.halves[row];
             tried.extend([(name("even"), even), (name("odd"), odd)]);
         }
+        for (period, rows) in Period::ALL.into_iter().zip(&self.ends) {
+            tried.extend(tried_at_end(period, rows));
+        }
         tried
     }
+}
+
+/// What has to be tried at the end of a period. One that doesn't end refuses no
+/// added customer and accepts neither expiries nor retentions.
+fn tried_at_end(period: Period, rows: &[AtEnd]) -> Vec<(String, u64)> {
+    let mut tried = Vec::new();
+    for (&(kind, number), &[accepted, refused, in_image]) in periods::KINDS.iter().zip(rows) {
+        let kind_name = ENTRY_KINDS[usize::from(kind)];
+        let what = format!("{kind_name} {}", period.at_end());
+        if period != Period::NoEnd || kind == ADDED_CUSTOMER {
+            tried.push((format!("{what}: accepted"), accepted));
+        }
+        if period != Period::NoEnd || kind != ADDED_CUSTOMER {
+            let number = format!("refusal number {number}");
+            tried.push((format!("{what}: {number}"), refused));
+            tried.push((format!("{what}, in an image: {number}"), in_image));
+        }
+    }
+    tried
 }
 
 fn size(entries: usize) -> usize {
@@ -236,19 +292,25 @@ impl fmt::Display for Tally {
         write_met(out, &names, &columns)?;
         writeln!(out, "\nImages by kind")?;
         let image_kinds = images::Kind::ALL.map(|kind| format!("{kind:?}"));
-        write_pairs(out, JUDGED, &image_kinds, &self.image_kinds)?;
+        write_counts(out, JUDGED, &image_kinds, &self.image_kinds)?;
         writeln!(out, "\nAccepted images by number of entries")?;
         for (name, count) in SIZES.iter().zip(self.sizes) {
             writeln!(out, "{name:>16} {count:>10}")?;
         }
         writeln!(out, "\nEntries posted or carried over by kind")?;
         let entry_kinds = ENTRY_KINDS.map(String::from);
-        write_pairs(out, JUDGED, &entry_kinds, &self.entry_kinds)?;
+        write_counts(out, JUDGED, &entry_kinds, &self.entry_kinds)?;
         writeln!(out, "\nOf these, accepted at a half by whole cents")?;
         let rows = halves::KINDS.map(usize::from);
         let names = rows.map(|row| ENTRY_KINDS[row].to_string());
         let halves = rows.map(|row| self.halves[row]);
-        write_pairs(out, ["even", "odd"], &names, &halves)
+        write_counts(out, ["even", "odd"], &names, &halves)?;
+        let kinds = periods::KINDS.map(|(kind, _)| ENTRY_KINDS[usize::from(kind)].to_string());
+        for (period, rows) in Period::ALL.into_iter().zip(&self.ends) {
+            writeln!(out, "\nEntries {}", period.at_end())?;
+            write_counts(out, AT_END, &kinds, rows)?;
+        }
+        Ok(())
     }
 }
 
@@ -275,16 +337,24 @@ fn write_row(
     writeln!(out)
 }
 
-/// Two columns, a row for each name.
-fn write_pairs(
+/// A column for each head, a row for each name.
+fn write_counts<const COLUMNS: usize>(
     out: &mut fmt::Formatter,
-    [first, second]: [&str; 2],
+    heads: [&str; COLUMNS],
     names: &[String],
-    rows: &[[u64; 2]],
+    rows: &[[u64; COLUMNS]],
 ) -> fmt::Result {
-    writeln!(out, "{:>16} {first:>10} {second:>10}", "kind")?;
-    for (name, [first, second]) in names.iter().zip(rows) {
-        writeln!(out, "{name:>16} {first:>10} {second:>10}")?;
+    write!(out, "{:>16}", "kind")?;
+    for head in heads {
+        write!(out, " {head:>10}")?;
+    }
+    writeln!(out)?;
+    for (name, counts) in names.iter().zip(rows) {
+        write!(out, "{name:>16}")?;
+        for count in counts {
+            write!(out, " {count:>10}")?;
+        }
+        writeln!(out)?;
     }
     Ok(())
 }

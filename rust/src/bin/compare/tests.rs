@@ -6,11 +6,12 @@ use crate::difference::{compare, Difference};
 use crate::expected::expected;
 use crate::halves;
 use crate::images::entries_of;
+use crate::periods::{self, Period};
 use crate::tally::Tally;
 use contribution_book::plain::*;
 
 /// How many lists are compared where no difference is found before.
-const LISTS: u64 = 1_000;
+const LISTS: u64 = 4_000;
 
 /// What a library does otherwise than the plain book, after it.
 type Slip = fn(&mut Call, &mut Answer);
@@ -190,6 +191,72 @@ const HALF_SLIPS: [(&str, Slip); 6] = [
     }),
 ];
 
+/// Another end of a period than the plain book's, from its start and its end.
+type OtherEnd = fn(u16, Option<u16>) -> Option<u16>;
+
+const OTHER_ENDS: [(&str, OtherEnd); 6] = [
+    ("1,826 days on", |start, _| Some(start + 1_826)),
+    ("1,827 days on", |start, _| Some(start + 1_827)),
+    ("28 February after 29 February", |start, end| {
+        end.map(|end| end - u16::from(periods::is_leap_day(start)))
+    }),
+    ("2099-12-31 where there is none", |_, end| {
+        end.or(Some(LAST_DAY))
+    }),
+    ("a day early", |_, end| end.map(|end| end - 1)),
+    ("a day late", |_, end| end.map(|end| end + 1)),
+];
+
+/// Whether the entry is on another side of the other end, where it comes after
+/// these.
+fn judged_otherwise(raw: &Raw, before: &[Raw], other_end: OtherEnd) -> bool {
+    let Some(start) = periods::start(raw, before) else {
+        return false;
+    };
+    let end = periods::end(raw.kind, start);
+    let has_ended = |end: Option<u16>| end.is_some_and(|end| raw.day >= end);
+    has_ended(end) != has_ended(other_end(start, end))
+}
+
+/// A posting of this kind that is accepted, or refused by this number, is judged
+/// by the other end.
+fn post_by(call: &Call, answer: &mut Answer, (kind, number): (u8, u8), other_end: OtherEnd) {
+    let (Request::Post { entry, .. }, Answer::Posted(given)) = (&call.request, answer) else {
+        return;
+    };
+    let by_period = given.record == 0 && [0, number].contains(&given.refusal);
+    if !posts(call, kind) || !by_period {
+        return;
+    }
+    let raw = parse_record(entry.bytes()).0;
+    if judged_otherwise(&raw, &entries_of(call.image.bytes()), other_end) {
+        given.refusal = number - given.refusal;
+    }
+}
+
+/// The records of this kind in an image that is accepted, or refused by this
+/// number, are judged by the other end.
+fn load_by(call: &Call, answer: &mut Answer, (kind, number): (u8, u8), other_end: OtherEnd) {
+    let Answer::Checked(given) = answer else {
+        return;
+    };
+    if ![0, number].contains(&given.refusal) {
+        return;
+    }
+    let entries = entries_of(call.image.bytes());
+    let judged = match usize::from(given.record) {
+        0 => entries.len(),
+        record => record,
+    };
+    let otherwise = |place: usize| {
+        let (raw, before) = (&entries[place], &entries[..place]);
+        raw.kind == kind && judged_otherwise(raw, before, other_end)
+    };
+    if (0..judged).any(otherwise) {
+        given.refusal = number - given.refusal;
+    }
+}
+
 /// Writes a space at this line and column, counted from 1, of an accepted page.
 fn put_space(call: &mut Call, answer: &Answer, line: usize, column: usize) {
     let (Request::Page { output, .. }, Answer::Page(given)) = (&mut call.request, answer) else {
@@ -285,7 +352,7 @@ fn plain(call: &mut Call) -> Answer {
     expected.answer
 }
 
-fn with(slip: Slip) -> impl Fn(&mut Call) -> Answer {
+fn with(slip: impl Fn(&mut Call, &mut Answer)) -> impl Fn(&mut Call) -> Answer {
     move |call| {
         let mut answer = plain(call);
         slip(call, &mut answer);
@@ -293,9 +360,10 @@ fn with(slip: Slip) -> impl Fn(&mut Call) -> Answer {
     }
 }
 
-fn first_difference(slip: Slip) -> Option<Box<Difference>> {
+fn first_difference(slip: impl Fn(&mut Call, &mut Answer)) -> Option<Box<Difference>> {
     let mut tally = Tally::new();
-    (1..=LISTS).find_map(|list| compare(list, with(slip), &mut tally).err())
+    let library = with(slip);
+    (1..=LISTS).find_map(|list| compare(list, &library, &mut tally).err())
 }
 
 #[test]
@@ -309,7 +377,7 @@ fn the_plain_book_differs_in_nothing_from_itself() {
 /// In this list both nodes are offered serials near the last one early on.
 #[test]
 fn a_list_begins_where_serials_are_few() {
-    let list = 17_939_457_301_718_418_461;
+    let list = 167_963;
     assert!(compare(list, plain, &mut Tally::new()).is_ok());
 }
 
@@ -318,6 +386,18 @@ fn every_slip_is_found() {
     let slips = [&ANSWER_SLIPS[..], &HALF_SLIPS, &PAGE_SLIPS, &BUFFER_SLIPS];
     for (name, slip) in slips.into_iter().flatten() {
         assert!(first_difference(*slip).is_some(), "{name}");
+    }
+}
+
+#[test]
+fn every_other_end_of_a_period_is_found() {
+    for (name, other_end) in OTHER_ENDS {
+        for judged in periods::KINDS {
+            let posted = first_difference(|call, answer| post_by(call, answer, judged, other_end));
+            assert!(posted.is_some(), "{name}: {judged:?} posted");
+            let loaded = first_difference(|call, answer| load_by(call, answer, judged, other_end));
+            assert!(loaded.is_some(), "{name}: {judged:?} loaded");
+        }
     }
 }
 
@@ -361,6 +441,39 @@ fn whole_cents_of_halves() {
 }
 
 #[test]
+fn entries_at_the_end_of_a_period() {
+    // The start, and the days at its end: the last before it, and the end.
+    let periods = [
+        (100, [1_925, 1_926], Period::Days1826),
+        (0, [1_826, 1_827], Period::Days1827),
+        (58, [1_884, 1_885], Period::Days1827),
+        (59, [1_885, 1_886], Period::LeapDay),
+        (60, [1_885, 1_886], Period::Days1826),
+        (34_698, [36_523, 36_524], Period::Days1826),
+    ];
+    for (kind, _) in periods::KINDS {
+        let period_of = |start, day| {
+            let [named, raw] = [start, day].map(|day| Raw {
+                kind,
+                day,
+                ..Raw::default()
+            });
+            // Their nodes and serials, and the named ones, are 0.
+            periods::ending_at(&raw, &[named])
+        };
+        for (start, [last, end], period) in periods {
+            let days = [last - 1, last, end, end + 1];
+            let expected = [None, Some(period), Some(period), None];
+            assert_eq!(days.map(|day| period_of(start, day)), expected, "{start}");
+        }
+        for start in [34_699, 35_123, 36_524] {
+            assert_eq!(period_of(start, 36_523), None, "{start}");
+            assert_eq!(period_of(start, 36_524), Some(Period::NoEnd), "{start}");
+        }
+    }
+}
+
+#[test]
 fn a_list_seed_gives_the_same_difference_again() {
     for (name, slip) in ANSWER_SLIPS {
         let first = first_difference(slip).expect(name);
@@ -382,6 +495,11 @@ fn what_was_tried_too_rarely_is_named() {
         "page: refusal number 23 fewer than 100 times",
         "expiry: accepted fewer than 100 times",
         "deposit return at a half, odd cents: accepted fewer than 100 times",
+        "expiry at the end of a period of 1,827 days: accepted fewer than 100 times",
+        "added customer at the end of a period from 29 February, in an image: refusal number 12 \
+         fewer than 100 times",
+        "retention on 2099-12-31 in a period that doesn't end: refusal number 26 \
+         fewer than 100 times",
     ] {
         assert!(shortages.iter().any(|shortage| shortage == line), "{line}");
     }

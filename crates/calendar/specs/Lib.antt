@@ -1,0 +1,4 @@
+pub mod Years
+pub mod Dates
+pub mod Periods
+pub mod Calendar
