@@ -11,6 +11,11 @@
  * A refused call has zeros in every other member, and writes nothing. An accepted one writes its result at the start of
  * each buffer that it leaves something in, and no byte past it.
  *
+ * Refusal numbers 27 to 29 are of late-charge runs. An image holds no such run and no call opens one, so that no call
+ * gives them. A late charge (kind 12) is an entry that such a run made. In an image it charges its account by its amount,
+ * 0 to 100,000,000, its further fields being zero; no entry may name it. Posted or carried over it is refused by 1, as an
+ * unknown kind is.
+ *
  * Each buffer is a pointer and its length in bytes. The pointer is not null, also where the length is 0. The buffers that a
  * call writes must not overlap one another or those that it reads. No call keeps a pointer, allocates, or uses memory that
  * another call uses, so that calls on separate buffers may run at once. A call uses up to 1 MiB of stack.
@@ -87,19 +92,19 @@ struct contribution_book_carry_given {
 
 /*
  * Carries over the other node's entries: posts each in turn.
- * Takes    the image, and a run of entries, each as a record, whose next index is not read.
+ * Takes    the image, and the entries, each as a record, whose next index is not read.
  * Gives    the length of the next image.
- * Refuses  the image; then the run by 17 where its length is no multiple of 24; then by 22 a result list that is shorter
+ * Refuses  the image; then the entries by 17 where their length is no multiple of 24; then by 22 a result list that is shorter
  *          than the entries; then by 21 an output that is shorter than the next image. An entry that is refused doesn't
  *          refuse the call.
  * Leaves   each entry's refusal number, or 0, at its place in the result list, and the next image at the start of the
- *          output. The two must not overlap each other, the image or the run.
+ *          output. The two must not overlap each other, the image or the entries.
  *
  * An output of CONTRIBUTION_BOOK_LONGEST_IMAGE bytes always has room. Where an output has no room for the image with
  * all the entries, each is posted twice, the first time only to learn whether the next image fits.
  */
 struct contribution_book_carry_given contribution_book_carry_over(const uint8_t *image, size_t image_length,
-                                                                  const uint8_t *run, size_t run_length,
+                                                                  const uint8_t *entries, size_t entries_length,
                                                                   uint8_t *results, size_t results_length,
                                                                   uint8_t *output, size_t output_length);
 
@@ -112,7 +117,7 @@ struct contribution_book_statement_given {
     uint64_t credit;
     uint64_t deposit;  /* deposit held */
     uint64_t held;     /* held, summed over the account's contributions */
-    uint64_t bills;    /* standing bills, summed over the entries read */
+    uint64_t bills;    /* standing bills and late charges, summed over the entries read */
     uint64_t payments; /* standing payments, summed over the entries read */
 };
 
@@ -166,8 +171,8 @@ struct contribution_book_page_given {
  * Line 1         the account, to column 3
  * Lines 3 to 6   arrears, credit, deposit held and held, to column 80; they are the statement's
  * Lines 8 to 65  the account's newest 58 entries, newest first, a line each: number to column 4, day to column 10, kind to
- *                column 13, amount to column 80: the standing amount of a bill or payment, else the posted one, 0.00 where
- *                the kind has none
+ *                column 13, amount to column 80: the standing amount of a bill or payment, else the entry's own, 0.00
+ *                where the kind has none
  * Amounts are dollars, at least one digit, a point and two digits of cents. Account, number, day and kind have no leading
  * zeros. Every other position is a space; lines 2, 7 and 66, and those that no entry takes, are blank.
  */

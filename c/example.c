@@ -62,11 +62,11 @@ int main(void) {
     printf("entry %u, image of %zu bytes\n", (unsigned)posted.number, posted.bytes);
 
     /* Node 2's contribution of 300,000 for 200 metres and one phase, and one for 0 metres, which is refused by 5. */
-    uint8_t run[2 * CONTRIBUTION_BOOK_RECORD], results[2];
-    put_entry(run, CONTRIBUTION, 2, 1, 300000, 200, 1);
-    put_entry(run + CONTRIBUTION_BOOK_RECORD, CONTRIBUTION, 2, 2, 300000, 0, 1);
+    uint8_t entries[2 * CONTRIBUTION_BOOK_RECORD], results[2];
+    put_entry(entries, CONTRIBUTION, 2, 1, 300000, 200, 1);
+    put_entry(entries + CONTRIBUTION_BOOK_RECORD, CONTRIBUTION, 2, 2, 300000, 0, 1);
     struct contribution_book_carry_given carried = contribution_book_carry_over(
-        first, posted.bytes, run, sizeof run, results, sizeof results, second, sizeof second);
+        first, posted.bytes, entries, sizeof entries, results, sizeof results, second, sizeof second);
     if (carried.refusal != 0) {
         return refused("carry_over", carried.refusal, carried.record);
     }

@@ -31,6 +31,13 @@ impl Book {
         (self, reply)
     }
 
+    /// Takes in a record of an image as a posting does.
+    #[inline(never)]
+    fn record(mut self, raw: &Raw) -> (Book, PostingReply) {
+        let reply = self.plain.record(raw);
+        (self, reply)
+    }
+
     /// Posts each entry in turn and writes its refusal number, or 0, to the
     /// same place in `results`. Refused by 22 where `results` is shorter.
     #[inline(never)]
@@ -45,6 +52,27 @@ impl Book {
             book = next;
         }
         (book, 0)
+    }
+
+    /// Opens a late-charge run; gives 0, or 28.
+    #[inline(never)]
+    pub fn open_run(mut self, node: u8, day: u16, rate: u16) -> (Book, u8) {
+        let refusal = self.plain.open_run(node, day, rate);
+        (self, refusal)
+    }
+
+    /// Charges the run's next account.
+    #[inline(never)]
+    pub fn step(mut self) -> (Book, PostingReply) {
+        let reply = self.plain.step();
+        (self, reply)
+    }
+
+    /// Closes the run early; gives 0, or 28.
+    #[inline(never)]
+    pub fn close_run(mut self) -> (Book, u8) {
+        let refusal = self.plain.close_run();
+        (self, refusal)
     }
 
     /// The statement of an account.
@@ -73,7 +101,7 @@ impl Book {
         (self, refusal, length)
     }
 
-    /// Writes the image; gives refusal 0 and its length, or 21.
+    /// Writes the image; gives refusal 0 and its length, or 29 or 21.
     #[inline(never)]
     pub fn save(self, buffer: &mut [u8]) -> (Book, u8, usize) {
         let (refusal, length) = self.plain.save(buffer);
@@ -90,7 +118,7 @@ impl Book {
         let mut book = Book::fresh();
         for (record, number) in image[RECORD..].chunks_exact(RECORD).zip(1..) {
             let (raw, next_index) = plain::parse_record(record);
-            let (next, reply) = book.post(&raw);
+            let (next, reply) = book.record(&raw);
             if let Err(refusal) = next.plain.check_record(reply, next_index) {
                 return (Book::fresh(), refusal, number);
             }

@@ -10,11 +10,14 @@ mod image;
 mod page;
 mod posting;
 mod query;
+mod run;
 
 pub use calendar::{date_of, day_of, years_on, Date};
+pub use check::Incoming;
 pub(crate) use image::check_header;
 pub use image::{parse_record, write_record};
 pub use query::{ContributionReply, StatementReply};
+use run::Run;
 
 /// Accounts of every book, numbered from 1.
 pub const ACCOUNTS: usize = 128;
@@ -34,6 +37,7 @@ pub const LAST_DAY: u16 = 36_524;
 pub const AMOUNT_MOST: u32 = 100_000_000;
 pub const MAX_PERIOD: u16 = 62;
 pub const MAX_RATE: u16 = 2_000;
+pub const MAX_LATE_RATE: u16 = 1_000;
 /// The years of a contribution's refund period: from its end on an expiry may
 /// come and an added customer may not.
 pub const REFUND_YEARS: u16 = 5;
@@ -56,8 +60,11 @@ pub const CORRECTION: u8 = 8;
 pub const GUARANTEE: u8 = 9;
 pub const REDUCTION: u8 = 10;
 pub const RETENTION: u8 = 11;
+pub const LATE_CHARGE: u8 = 12;
 /// Kinds are numbered from 1 to this.
-pub const LAST_KIND: u8 = RETENTION;
+pub const LAST_KIND: u8 = LATE_CHARGE;
+/// The kinds that can be posted are numbered from 1 to this.
+pub const LAST_POSTED_KIND: u8 = RETENTION;
 
 /// An entry as it is offered to the book, its fields unchecked.
 #[derive(Clone, Copy, Debug, Default, PartialEq, Eq)]
@@ -102,7 +109,7 @@ struct Entry {
     raw: Raw,
     /// The number of the account's previous entry; zero ends the chain.
     next: u16,
-    /// Bill or payment: its standing amount.
+    /// Bill, payment or late charge: its standing amount.
     standing: u64,
     /// Bill or payment: a correction named it.
     corrected: bool,
@@ -208,13 +215,9 @@ pub struct Book {
     count: usize,
     /// Last serial of node 1 and of node 2.
     last_serials: [u32; 2],
-    unused: [u8; UNUSED],
+    /// The late-charge run that is open. An image holds none.
+    run: Option<Run>,
 }
-
-/// Unused bytes, for the times alone. Without them the book's size is 16 modulo
-/// 4,096, and a copy between addresses that differ by so little, as those of
-/// neighbours on the stack do, takes several times as long.
-const UNUSED: usize = 1_024;
 
 impl Book {
     /// The book with no entries.
@@ -224,7 +227,7 @@ impl Book {
             entries: [Entry::EMPTY; ENTRIES],
             count: 0,
             last_serials: [0; 2],
-            unused: [0; UNUSED],
+            run: None,
         }
     }
 
@@ -261,6 +264,11 @@ impl Book {
             let raw = &self.entries[place].raw;
             raw.node == node && raw.serial == serial
         })
+    }
+
+    /// The node's last serial.
+    fn last_serial(&self, node: u8) -> u32 {
+        self.last_serials[usize::from(node) - 1]
     }
 
     fn account(&self, account: u16) -> &Account {

@@ -98,8 +98,8 @@ extern "C" {
     fn contribution_book_carry_over(
         image: *const u8,
         image_length: usize,
-        run: *const u8,
-        run_length: usize,
+        entries: *const u8,
+        entries_length: usize,
         results: *mut u8,
         results_length: usize,
         output: *mut u8,
@@ -153,17 +153,22 @@ pub fn post(image: &[u8], entry: &[u8], output: &mut [u8]) -> PostingGiven {
     }
 }
 
-/// Posts each entry of a run; its refusal number, or 0, goes to its place in
+/// Posts each of the entries, records in turn; its refusal number, or 0, goes to its place in
 /// the result list, and the next image to the start of the output.
-pub fn carry_over(image: &[u8], run: &[u8], results: &mut [u8], output: &mut [u8]) -> CarryGiven {
+pub fn carry_over(
+    image: &[u8],
+    entries: &[u8],
+    results: &mut [u8],
+    output: &mut [u8],
+) -> CarryGiven {
     // SAFETY: as in `check`; and the result list and the output, each borrowed
     // mutably, overlap no other slice.
     unsafe {
         contribution_book_carry_over(
             image.as_ptr(),
             image.len(),
-            run.as_ptr(),
-            run.len(),
+            entries.as_ptr(),
+            entries.len(),
             results.as_mut_ptr(),
             results.len(),
             output.as_mut_ptr(),

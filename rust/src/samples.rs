@@ -2,8 +2,8 @@
 
 use crate::plain::*;
 
-/// An entry of node 1 in its kind's range. The kinds that name no entry leave
-/// out the named serial.
+/// An entry of node 1 in its kind's range, of a kind that can be posted. The
+/// kinds that name no entry leave out the named serial.
 pub fn entry(kind: u8, account: u16, serial: u32, named_serial: u32) -> Raw {
     let (day, amount, named_serial, a, b) = match kind {
         CONTRIBUTION => (0, 300_000, 0, 200, 1),

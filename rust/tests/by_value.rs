@@ -3,7 +3,7 @@
 use contribution_book::{by_value, plain, plain::*, samples};
 use std::collections::BTreeSet;
 
-const KINDS: u32 = LAST_KIND as u32;
+const KINDS: u32 = LAST_POSTED_KIND as u32;
 
 /// A sequence of numbers that look random, the same for each seed.
 struct Numbers(u64);
@@ -16,7 +16,7 @@ impl Numbers {
     }
 }
 
-/// Entries of every kind by turns, on two accounts.
+/// Entries of every kind that can be posted by turns, on two accounts.
 fn entries(seed: u64) -> Vec<Raw> {
     let mut numbers = Numbers(seed);
     let mut entry = |serial: u32| {
@@ -83,7 +83,7 @@ fn the_lists_have_accepted_and_refused_entries() {
             _ => refusals.insert(refusal),
         };
     }
-    assert!(accepted.into_iter().eq(CONTRIBUTION..=LAST_KIND));
+    assert!(accepted.into_iter().eq(CONTRIBUTION..=LAST_POSTED_KIND));
     assert!(refusals
         .into_iter()
         .eq([8, 9, 10, 11, 12, 13, 16, 24, 25, 26]));
@@ -122,6 +122,54 @@ fn carry_overs() {
         assert_eq!(results, same);
         assert!(unchanged == by_value);
     }
+}
+
+/// Makes a call of the book where it is.
+fn call<T>(
+    book: &mut by_value::Book,
+    call: impl FnOnce(by_value::Book) -> (by_value::Book, T),
+) -> T {
+    let (next, answer) = call(book.clone());
+    *book = next;
+    answer
+}
+
+/// Both books with bills of three accounts and a run open on them.
+fn opened() -> (plain::Book, by_value::Book) {
+    let bill = |account| samples::entry(BILL, account, account.into(), 0);
+    let (mut plain, mut by_value) = posted(&[bill(1), bill(2), bill(3)]);
+    assert_eq!(plain.open_run(2, 9, 1_000), 0);
+    assert_eq!(call(&mut by_value, |book| book.open_run(2, 9, 1_000)), 0);
+    (plain, by_value)
+}
+
+#[test]
+fn late_charges_and_images() {
+    let (mut plain, mut by_value) = opened();
+    for refusal in [0, 0, 0, 28] {
+        let reply = call(&mut by_value, by_value::Book::step);
+        assert_eq!(reply, plain.step());
+        assert_eq!(reply.refusal, refusal);
+    }
+    let image = saved(&plain, by_value.clone());
+    let (loaded, refusal, record) = by_value::Book::load(&image);
+    assert_eq!((refusal, record), (0, 0));
+    assert!(loaded == by_value);
+}
+
+#[test]
+fn openings_saves_and_closes_during_a_run() {
+    let (mut plain, mut by_value) = opened();
+    assert_eq!(plain.open_run(2, 9, 1_000), 28);
+    assert_eq!(call(&mut by_value, |book| book.open_run(2, 9, 1_000)), 28);
+    assert_eq!(plain.save(&mut []), (29, 0));
+    let (_, refusal, length) = by_value.clone().save(&mut []);
+    assert_eq!((refusal, length), (29, 0));
+    for refusal in [0, 28] {
+        assert_eq!(plain.close_run(), refusal);
+        assert_eq!(call(&mut by_value, by_value::Book::close_run), refusal);
+    }
+    saved(&plain, by_value);
 }
 
 #[test]

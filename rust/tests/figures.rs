@@ -102,8 +102,19 @@ fn retention(serial: u32, named_serial: u32) -> Raw {
     }
 }
 
+fn late_charge(serial: u32, amount: u32) -> Raw {
+    Raw {
+        amount,
+        ..entry(LATE_CHARGE, serial)
+    }
+}
+
 fn on(day: u16, raw: Raw) -> Raw {
     Raw { day, ..raw }
+}
+
+fn at(account: u16, raw: Raw) -> Raw {
+    Raw { account, ..raw }
 }
 
 fn book(entries: &[Raw]) -> Book {
@@ -155,6 +166,21 @@ fn payments(count: u32) -> Book {
 fn image(book: &Book) -> Vec<u8> {
     let mut bytes = vec![0; 24 * (book.count() + 1)];
     assert_eq!(book.save(&mut bytes), (0, bytes.len()));
+    bytes
+}
+
+/// The image that has these entries as its records.
+fn image_of(entries: &[Raw]) -> Vec<u8> {
+    let mut bytes = image(&Book::fresh());
+    bytes[4..6].copy_from_slice(&(entries.len() as u16).to_le_bytes());
+    for (place, raw) in entries.iter().enumerate() {
+        let mut before = entries[..place].iter();
+        let previous = before.rposition(|other| other.account == raw.account);
+        let next = previous.map_or(0, |previous| previous as u16 + 1);
+        let mut record = [0; 24];
+        write_record(&mut record, raw, next);
+        bytes.extend(record);
+    }
     bytes
 }
 
@@ -615,7 +641,7 @@ fn refusals_12_13_and_26_at_load() {
 
 #[test]
 fn an_image_of_every_kind_loads_as_saved() {
-    let posted = book(&[
+    let mut saved = book(&[
         contribution(1, 300_000, 200, 3),
         bill(2, 80_000, 62, 31),
         Raw {
@@ -635,10 +661,13 @@ fn an_image_of_every_kind_loads_as_saved() {
             account: 128,
             ..payment(1, 9)
         },
+        at(128, bill(12, 1_009, 1, 1)),
     ]);
-    let (loaded, refusal, record) = Book::load(&image(&posted));
+    opened(&mut saved, (2, 2_000, 150));
+    stepped(&mut saved);
+    let (loaded, refusal, record) = Book::load(&image(&saved));
     assert_eq!((refusal, record), (0, 0));
-    assert!(loaded == posted);
+    assert!(loaded == saved);
 }
 
 /// Posts entries to a fresh book, which refuses each by this number.
@@ -651,7 +680,7 @@ fn all_refused(entries: &[Raw], refusal: u8) {
 #[test]
 fn refusals_1_to_4_common_fields() {
     let good = payment(1, 1);
-    all_refused(&[0, 12, 255].map(|kind| Raw { kind, ..good }), 1);
+    all_refused(&[0, 12, 13, 255].map(|kind| Raw { kind, ..good }), 1);
     all_refused(&[0, 3].map(|node| Raw { node, ..good }), 2);
     all_refused(&[0, 129].map(|account| Raw { account, ..good }), 3);
     all_refused(&[on(36_525, good)], 4);
@@ -1352,7 +1381,7 @@ fn a_statement_and_the_printer_leave_guarantees_out() {
     assert_eq!(line, b"5 0 1500 0 300000\n");
 }
 
-/// Entries of all kinds but a retention.
+/// Entries of all kinds that can be posted but a retention.
 fn of_all_kinds() -> [Raw; 13] {
     [
         contribution(1, 60_000, 100, 1),
@@ -1384,22 +1413,26 @@ fn the_sum_of_an_account() {
         totals = [0, 1, 2, 3].map(|at| totals[at] + amounts[at]);
     }
     assert_eq!(totals, [3_700, 43_760, 45_000, 1_560]);
+    // A late charge of 5 on arrears of 50.
+    opened(&mut book, (1, 500, 1_000));
+    stepped(&mut book);
     let expected = StatementReply {
-        arrears: 50,
+        arrears: 55,
         deposit: 5_000,
-        links_read: 13,
-        bills: 12_750,
+        links_read: 14,
+        bills: 12_755,
         payments: 9_000,
         complete: true,
         ..StatementReply::default()
     };
-    assert_eq!(book.statement(5, 13), expected);
+    assert_eq!(book.statement(5, 14), expected);
     // Contributions, payments, deposits, guarantees, interest and arrears.
-    let came = 60_000 + 9_000 + 35_000 + 20_000 + 1_560 + 50;
-    // Bills, paid out, retained, deposit held: the guarantee holds the rest.
-    let rest = came - (12_750 + 43_760 + 45_000 + 5_000);
+    let came = 60_000 + 9_000 + 35_000 + 20_000 + 1_560 + 55;
+    // Bills with late charges, paid out, retained, deposit held: the guarantee
+    // holds the rest.
+    let rest = came - (12_755 + 43_760 + 45_000 + 5_000);
     assert_eq!(rest, 19_100);
-    let raw = on(1_827, retention(14, 2));
+    let raw = on(1_827, retention(15, 2));
     assert_eq!(accepted(&mut book, raw), [0, 0, rest, 0]);
 }
 
@@ -1616,14 +1649,17 @@ fn standing_amounts_on_a_page() {
 fn a_page_of_every_kind() {
     let mut book = book(&of_all_kinds());
     accepted(&mut book, on(1_827, retention(14, 2)));
+    opened(&mut book, (1, 1_900, 1_000));
+    stepped(&mut book);
     let expected = [
         "  5                                                                             ",
         "                                                                                ",
-        "                                                                            0.50",
+        "                                                                            0.55",
         "                                                                            0.00",
         "                                                                           50.00",
         "                                                                            0.00",
         "                                                                                ",
+        "  15  1900 12                                                               0.05",
         "  14  1827 11                                                               0.00",
         "  13  1827  7                                                               0.00",
         "  12   400  3                                                               0.50",
@@ -1696,4 +1732,538 @@ fn a_longer_buffer_keeps_its_further_bytes() {
     assert_eq!(book.page(5, &mut longer), (0, 5_346));
     assert_eq!(longer[..5_346], exact);
     assert_eq!(longer[5_346..], [0xEE; 5]);
+}
+
+/// A book of bills, each with its account and amount.
+fn owing(bills: &[(u16, u32)]) -> Book {
+    let bill_of = |(&(account, amount), serial)| at(account, bill(serial, amount, 1, 1));
+    let list: Vec<Raw> = bills.iter().zip(1..).map(bill_of).collect();
+    book(&list)
+}
+
+/// Opens a run of this node, day and rate, which is accepted.
+fn opened(book: &mut Book, (node, day, rate): (u8, u16, u16)) {
+    assert_eq!(book.open_run(node, day, rate), 0);
+}
+
+/// Makes a step that is accepted, four zeros beside the number; gives its late
+/// charge as an image has it.
+fn stepped(book: &mut Book) -> Raw {
+    let number = book.count() as u16 + 1;
+    let expected = PostingReply {
+        number,
+        ..PostingReply::default()
+    };
+    assert_eq!(book.step(), expected);
+    let mut closed = book.clone();
+    closed.close_run();
+    parse_record(&image(&closed)[24 * usize::from(number)..]).0
+}
+
+/// Makes a step that is refused: zeros beside the number, the book and its run
+/// unchanged.
+fn step_refused(book: &mut Book, refusal: u8) {
+    let before = book.clone();
+    let expected = PostingReply {
+        refusal,
+        ..PostingReply::default()
+    };
+    assert_eq!(book.step(), expected);
+    assert!(*book == before);
+}
+
+/// The book has no run: a step and a close are refused.
+fn has_no_run(book: &mut Book) {
+    step_refused(book, 28);
+    let before = book.clone();
+    assert_eq!(book.close_run(), 28);
+    assert!(*book == before);
+}
+
+#[test]
+fn a_run_without_arrears_is_over_at_its_opening() {
+    let paid = book(&[bill(1, 500, 1, 1), payment(2, 500), at(6, payment(3, 7))]);
+    for mut book in [Book::fresh(), paid] {
+        let before = book.clone();
+        for _ in 0..2 {
+            opened(&mut book, (1, 10, 1_000));
+            assert!(book == before);
+            has_no_run(&mut book);
+        }
+    }
+}
+
+#[test]
+fn refusal_28_of_openings() {
+    let broken = [
+        (0, 10, 100),
+        (3, 10, 100),
+        (255, 10, 100),
+        (1, 36_525, 100),
+        (1, u16::MAX, 100),
+        (1, 10, 1_001),
+        (1, 10, u16::MAX),
+    ];
+    for mut book in [Book::fresh(), owing(&[(5, 500)])] {
+        for (node, day, rate) in broken {
+            assert_eq!(book.open_run(node, day, rate), 28);
+            has_no_run(&mut book);
+        }
+    }
+}
+
+#[test]
+fn refusal_28_of_an_opening_during_a_run() {
+    for (node, day, rate, amount) in [(1, 0, 0, 0), (2, 36_524, 1_000, 50)] {
+        let mut book = owing(&[(5, 500)]);
+        opened(&mut book, (node, day, rate));
+        accepted(&mut book, payment(2, 1));
+        // The run keeps its node, day, rate and note.
+        for (node, day, rate) in [(1, 10, 100), (2, 20, 200), (3, 36_525, 1_001)] {
+            assert_eq!(book.open_run(node, day, rate), 28);
+        }
+        let serial = if node == 1 { 3 } else { 1 };
+        let expected = Raw {
+            node,
+            ..on(day, late_charge(serial, amount))
+        };
+        assert_eq!(stepped(&mut book), expected);
+        has_no_run(&mut book);
+    }
+}
+
+#[test]
+fn the_record_of_a_late_charge() {
+    // 2,500 at 2 percent; at 0, zero is posted too.
+    for (rate, amount) in [(200, 50), (0, 0)] {
+        let mut book = owing(&[(5, 2_500)]);
+        opened(&mut book, (1, 10, rate));
+        stepped(&mut book);
+        has_no_run(&mut book);
+        let mut record = [0; 24];
+        record[..16].copy_from_slice(&[
+            0x0C, 0x01, 0x05, 0x00, 0x0A, 0x00, 0x01, 0x00, //
+            0x02, 0x00, 0x00, 0x00, amount, 0x00, 0x00, 0x00,
+        ]);
+        assert_eq!(image(&book)[48..], record);
+        assert_eq!(balance(&book), (2_500 + u64::from(amount), 0));
+    }
+}
+
+/// Charges an account with one bill: arrears, rate and late charge.
+fn late_charges_are(figures: &[(u32, u16, u32)]) {
+    for &(arrears, rate, amount) in figures {
+        let mut book = owing(&[(5, arrears)]);
+        opened(&mut book, (1, 10, rate));
+        let expected = on(10, late_charge(2, amount));
+        assert_eq!(stepped(&mut book), expected, "{arrears} at {rate}");
+        let after = u64::from(arrears) + u64::from(amount);
+        assert_eq!(balance(&book), (after, 0));
+        assert_eq!(book.statement(5, 2).bills, after);
+        has_no_run(&mut book);
+    }
+}
+
+#[test]
+fn a_late_charge_is_a_part_of_the_arrears() {
+    late_charges_are(&[
+        (10_000, 150, 150),
+        (10_000, 1, 1),
+        (100_000_000, 1_000, 10_000_000),
+        // 185.175.
+        (12_345, 150, 185),
+        // 0.1, 0.4999 and 0.9999.
+        (1, 1_000, 0),
+        (4_999, 1, 0),
+        (9_999, 1, 1),
+    ]);
+}
+
+#[test]
+fn a_late_charge_at_a_half_goes_to_the_even_cent() {
+    late_charges_are(&[
+        // 1/2, 3/2, 5/2 and 7/2, each between its neighbours.
+        (4, 1_000, 0),
+        (5, 1_000, 0),
+        (6, 1_000, 1),
+        (14, 1_000, 1),
+        (15, 1_000, 2),
+        (16, 1_000, 2),
+        (24, 1_000, 2),
+        (25, 1_000, 2),
+        (26, 1_000, 3),
+        (34, 1_000, 3),
+        (35, 1_000, 4),
+        (36, 1_000, 4),
+        // The same at other rates.
+        (5_000, 1, 0),
+        (5_001, 1, 1),
+        (15_000, 1, 2),
+        (50, 100, 0),
+        (125, 200, 2),
+        // 9,999,998.5 and 9,999,999.5.
+        (99_999_985, 1_000, 9_999_998),
+        (99_999_995, 1_000, 10_000_000),
+    ]);
+}
+
+#[test]
+fn a_late_charge_is_100_000_000_at_most() {
+    // So many bills of 100,000,000, one more of this amount, the rate, and the
+    // late charge.
+    let figures = [
+        // 99,999,999.4 and 99,999,999.5.
+        (9, 99_999_994, 1_000, 99_999_999),
+        (9, 99_999_995, 1_000, 100_000_000),
+        (9, 100_000_000, 1_000, 100_000_000),
+        // 100,000,001, 110,000,000 and 430,000,000.
+        (10, 10, 1_000, 100_000_000),
+        (10, 100_000_000, 1_000, 100_000_000),
+        (42, 100_000_000, 1_000, 100_000_000),
+        // Arrears of 4,300,000,000; at 233 it would be 100,190,000.
+        (42, 100_000_000, 1, 430_000),
+        (42, 100_000_000, 232, 99_760_000),
+        (42, 100_000_000, 233, 100_000_000),
+    ];
+    for (count, last, rate, amount) in figures {
+        let mut book = owing(&vec![(5, 100_000_000); count]);
+        let serial = count as u32 + 1;
+        accepted(&mut book, bill(serial, last, 1, 1));
+        let (arrears, _) = balance(&book);
+        opened(&mut book, (1, 10, rate));
+        let expected = on(10, late_charge(serial + 1, amount));
+        assert_eq!(stepped(&mut book), expected, "{arrears} at {rate}");
+        assert_eq!(balance(&book), (arrears + u64::from(amount), 0));
+    }
+}
+
+#[test]
+fn a_run_charges_the_accounts_with_arrears_ascending() {
+    let mut book = owing(&[(128, 400), (64, 300), (1, 100), (127, 7), (5, 200)]);
+    accepted(&mut book, at(127, payment(6, 7)));
+    opened(&mut book, (2, 10, 1_000));
+    for ((account, amount), serial) in [(1, 10), (5, 20), (64, 30), (128, 40)].into_iter().zip(1..)
+    {
+        let expected = Raw {
+            node: 2,
+            ..on(10, at(account, late_charge(serial, amount)))
+        };
+        assert_eq!(stepped(&mut book), expected);
+    }
+    has_no_run(&mut book);
+}
+
+#[test]
+fn a_payment_during_a_run_counts_in_full_and_does_not_lower_the_charge() {
+    // Paid to account 6 between the steps, of it settled; arrears and credit
+    // after its late charge of 200.
+    let figures = [
+        (500, 500, 1_700, 0),
+        (2_000, 2_000, 200, 0),
+        (2_150, 2_000, 50, 0),
+        (2_500, 2_000, 0, 300),
+    ];
+    for (amount, settled, arrears, credit) in figures {
+        let mut book = owing(&[(5, 1_000), (6, 2_000)]);
+        opened(&mut book, (1, 10, 1_000));
+        assert_eq!(stepped(&mut book), on(10, late_charge(3, 100)));
+        let raw = at(6, payment(4, amount));
+        assert_eq!(accepted(&mut book, raw), [settled, 0, 0, 0]);
+        assert_eq!(stepped(&mut book), on(10, at(6, late_charge(5, 200))));
+        let expected = StatementReply {
+            arrears,
+            credit,
+            links_read: 3,
+            bills: 2_200,
+            payments: amount.into(),
+            complete: true,
+            ..StatementReply::default()
+        };
+        assert_eq!(book.statement(6, 3), expected);
+    }
+}
+
+#[test]
+fn a_run_goes_by_the_arrears_at_its_opening() {
+    let mut book = owing(&[(5, 1_000), (6, 2_000)]);
+    opened(&mut book, (1, 10, 1_000));
+    accepted(&mut book, at(6, bill(3, 5_000, 1, 1)));
+    // Account 7 has no noted arrears.
+    accepted(&mut book, at(7, bill(4, 900, 1, 1)));
+    // The charge of account 5 takes the serial after the node's last.
+    assert_eq!(accepted(&mut book, payment(10, 1_000)), [1_000, 0, 0, 0]);
+    assert_eq!(stepped(&mut book), on(10, late_charge(11, 100)));
+    assert_eq!(stepped(&mut book), on(10, at(6, late_charge(12, 200))));
+    has_no_run(&mut book);
+    let arrears = [5, 6, 7].map(|account| book.statement(account, 0).arrears);
+    assert_eq!(arrears, [100, 7_200, 900]);
+}
+
+#[test]
+fn the_next_run_notes_the_arrears_anew() {
+    let mut book = owing(&[(5, 10_000)]);
+    // 10 percent of 10,000, of 11,000 and, after a payment of 2,100, of 10,000.
+    opened(&mut book, (1, 10, 1_000));
+    assert_eq!(stepped(&mut book), on(10, late_charge(2, 1_000)));
+    opened(&mut book, (1, 40, 1_000));
+    assert_eq!(stepped(&mut book), on(40, late_charge(3, 1_100)));
+    accepted(&mut book, payment(4, 2_100));
+    // Days may fall.
+    opened(&mut book, (1, 30, 1_000));
+    assert_eq!(stepped(&mut book), on(30, late_charge(5, 1_000)));
+    assert_eq!(balance(&book), (11_000, 0));
+}
+
+#[test]
+fn a_run_closed_early() {
+    let mut book = owing(&[(5, 1_000), (6, 2_000), (7, 3_000)]);
+    opened(&mut book, (1, 10, 1_000));
+    assert_eq!(stepped(&mut book), on(10, late_charge(4, 100)));
+    assert_eq!(book.close_run(), 0);
+    has_no_run(&mut book);
+    let arrears = [5, 6, 7].map(|account| book.statement(account, 0).arrears);
+    assert_eq!(arrears, [1_100, 2_000, 3_000]);
+    // Nothing of the run is left in the book.
+    assert!(Book::load(&image(&book)) == (book.clone(), 0, 0));
+    opened(&mut book, (1, 11, 1_000));
+    assert_eq!(stepped(&mut book), on(11, late_charge(5, 110)));
+    assert_eq!(stepped(&mut book), on(11, at(6, late_charge(6, 200))));
+}
+
+#[test]
+fn a_load_gives_a_book_without_a_run() {
+    let mut book = owing(&[(5, 500)]);
+    let bytes = image(&book);
+    opened(&mut book, (1, 10, 1_000));
+    book = Book::load(&bytes).0;
+    assert!(book == owing(&[(5, 500)]));
+    has_no_run(&mut book);
+    opened(&mut book, (1, 10, 1_000));
+    stepped(&mut book);
+}
+
+#[test]
+fn refusal_27_a_correction_during_a_run() {
+    let mut book = owing(&[(5, 500), (6, 700)]);
+    accepted(&mut book, payment(3, 100));
+    opened(&mut book, (2, 10, 100));
+    for named_serial in [1, 3] {
+        refused(&mut book, correction(4, named_serial, 400), 27);
+    }
+    // 5 and 6 come before it, 8 after it.
+    refused(&mut book, correction(4, 1, 100_000_001), 5);
+    refused(&mut book, correction(3, 1, 400), 6);
+    refused(&mut book, correction(4, 2, 400), 27);
+
+    let entries = [
+        correction(4, 1, 400),
+        payment(4, 1),
+        correction(4, 1, 400),
+        correction(5, 1, 400),
+    ];
+    let mut results = [9; 5];
+    assert_eq!(book.carry_over(&entries, &mut results), 0);
+    assert_eq!(results, [27, 0, 6, 27, 9]);
+
+    stepped(&mut book);
+    refused(&mut book, correction(5, 1, 400), 27);
+    stepped(&mut book);
+    let raw = correction(5, 1, 400);
+    assert_eq!(accepted(&mut book, raw), [100, 0, 0, 0]);
+    // After an early close, too.
+    opened(&mut book, (2, 10, 100));
+    refused(&mut book, correction(6, 3, 90), 27);
+    assert_eq!(book.close_run(), 0);
+    assert_eq!(accepted(&mut book, correction(6, 3, 90)), [0; 4]);
+}
+
+#[test]
+fn refusal_27_comes_before_7() {
+    let mut book = owing(&[(5, 1); 1_024]);
+    opened(&mut book, (1, 10, 1_000));
+    refused(&mut book, correction(1_024, 1, 0), 6);
+    refused(&mut book, correction(1_025, 1, 0), 27);
+    refused(&mut book, payment(1_025, 1), 7);
+    assert_eq!(book.close_run(), 0);
+    refused(&mut book, correction(1_025, 1, 0), 7);
+}
+
+#[test]
+fn refusal_7_leaves_the_run_at_its_account() {
+    let mut book = owing(&[(5, 10); 1_022]);
+    accepted(&mut book, at(6, bill(1_023, 10, 1, 1)));
+    opened(&mut book, (1, 10, 1_000));
+    // 10 percent of 10,220.
+    assert_eq!(stepped(&mut book), on(10, late_charge(1_024, 1_022)));
+    for _ in 0..2 {
+        step_refused(&mut book, 7);
+    }
+    assert_eq!(book.close_run(), 0);
+    has_no_run(&mut book);
+}
+
+#[test]
+fn refusal_6_leaves_the_run_at_its_account() {
+    let last = 4_294_967_295;
+    let mut book = book(&[bill(1, 10, 1, 1), at(6, bill(last - 1, 20, 1, 1))]);
+    opened(&mut book, (1, 10, 1_000));
+    assert_eq!(stepped(&mut book), on(10, late_charge(last, 1)));
+    for _ in 0..2 {
+        step_refused(&mut book, 6);
+    }
+    assert_eq!(book.close_run(), 0);
+    // The other node has serials.
+    opened(&mut book, (2, 10, 1_000));
+    let expected = Raw {
+        node: 2,
+        ..on(10, late_charge(1, 1))
+    };
+    assert_eq!(stepped(&mut book), expected);
+}
+
+#[test]
+fn refusal_6_of_a_step_comes_before_7() {
+    let mut book = owing(&[(5, 1); 1_023]);
+    accepted(&mut book, bill(4_294_967_295, 1, 1, 1));
+    opened(&mut book, (1, 10, 1_000));
+    step_refused(&mut book, 6);
+    assert_eq!(book.close_run(), 0);
+    opened(&mut book, (2, 10, 1_000));
+    step_refused(&mut book, 7);
+}
+
+#[test]
+fn refusal_29_a_save_during_a_run() {
+    let mut book = owing(&[(5, 500)]);
+    opened(&mut book, (1, 10, 100));
+    for length in [0, 47, 48, 72] {
+        let mut bytes = vec![0xEE; length];
+        assert_eq!(book.save(&mut bytes), (29, 0));
+        assert!(bytes.iter().all(|&byte| byte == 0xEE));
+    }
+    assert_eq!(book.close_run(), 0);
+    assert_eq!(book.save(&mut [0; 47]), (21, 0));
+    assert_eq!(book.save(&mut [0; 48]), (0, 48));
+}
+
+#[test]
+fn refusal_1_of_late_charges() {
+    let mut book = owing(&[(5, 500)]);
+    let good = late_charge(2, 5);
+    // 1 comes before 2 to 6.
+    for raw in [
+        good,
+        late_charge(2, 0),
+        late_charge(2, 100_000_001),
+        late_charge(1, 5),
+        Raw { node: 0, ..good },
+        at(0, good),
+        on(36_525, good),
+    ] {
+        refused(&mut book, raw, 1);
+    }
+    let mut results = [9; 3];
+    let entries = [payment(2, 1), late_charge(3, 5), payment(3, 1)];
+    assert_eq!(book.carry_over(&entries, &mut results), 0);
+    assert_eq!(results, [0, 1, 0]);
+    // During a run, too.
+    opened(&mut book, (1, 10, 100));
+    refused(&mut book, late_charge(4, 5), 1);
+}
+
+#[test]
+fn a_late_charge_loads_as_the_charge_that_it_carries() {
+    // Its amount, arrears and credit after it, where credit was 300.
+    let figures = [
+        (0, 0, 300),
+        (299, 0, 1),
+        (300, 0, 0),
+        (301, 1, 0),
+        (100_000_000, 99_999_700, 0),
+    ];
+    for (amount, arrears, credit) in figures {
+        let bytes = image_of(&[payment(1, 300), on(10, late_charge(2, amount))]);
+        let (loaded, refusal, record) = Book::load(&bytes);
+        assert_eq!((refusal, record), (0, 0));
+        let expected = StatementReply {
+            arrears,
+            credit,
+            links_read: 2,
+            bills: amount.into(),
+            payments: 300,
+            complete: true,
+            ..StatementReply::default()
+        };
+        assert_eq!(loaded.statement(5, 2), expected);
+        assert_eq!(image(&loaded), bytes);
+    }
+}
+
+#[test]
+fn refusals_of_a_late_charge_at_load() {
+    let good = on(10, late_charge(2, 5));
+    let broken = [
+        (Raw { node: 0, ..good }, 2),
+        (Raw { node: 3, ..good }, 2),
+        (at(0, good), 3),
+        (at(129, good), 3),
+        (on(36_525, good), 4),
+        (late_charge(2, 100_000_001), 5),
+        (Raw { a: 1, ..good }, 5),
+        (Raw { b: 1, ..good }, 5),
+        (
+            Raw {
+                named_node: 1,
+                ..good
+            },
+            5,
+        ),
+        (
+            Raw {
+                named_serial: 1,
+                ..good
+            },
+            5,
+        ),
+        (late_charge(1, 5), 6),
+    ];
+    for (raw, refusal) in broken {
+        load_refused(&image_of(&[bill(1, 500, 1, 1), raw]), refusal, 2);
+    }
+    let mut bytes = image_of(&[bill(1, 500, 1, 1), good]);
+    bytes[54] = 0;
+    load_refused(&bytes, 20, 2);
+}
+
+#[test]
+fn refusal_8_of_entries_that_name_a_late_charge() {
+    let mut book = owing(&[(5, 500)]);
+    opened(&mut book, (1, 0, 1_000));
+    let charge = stepped(&mut book);
+    for raw in [
+        correction(3, 2, 40),
+        added(3, 2, 1),
+        expiry(3, 2),
+        reduction(3, 2),
+        retention(3, 2),
+    ] {
+        let raw = on(1_827, raw);
+        refused(&mut book, raw, 8);
+        load_refused(&image_of(&[bill(1, 500, 1, 1), charge, raw]), 8, 3);
+    }
+    assert_eq!(book.contribution_query(5, 1, 2).refusal, 8);
+}
+
+#[test]
+fn late_charges_count_with_bills_among_the_entries_read() {
+    let mut book = owing(&[(5, 500)]);
+    opened(&mut book, (1, 10, 1_000));
+    stepped(&mut book);
+    accepted(&mut book, payment(3, 30));
+    for (allowance, bills) in [(0, 0), (1, 0), (2, 50), (3, 550)] {
+        assert_eq!(book.statement(5, allowance).bills, bills);
+    }
+    let mut line = Vec::new();
+    write_account(&mut line, 5, &book.statement(5, 0)).unwrap();
+    assert_eq!(line, b"5 520 0 0 0\n");
 }

@@ -8,6 +8,7 @@ use lib.ListN.{getD}
 use Rattle.measures.specs.declared.Cents.{Cents}
 use Rattle.entries.specs.Kinds.{kindOf}
 use Rattle.entries.specs.Data.{noEntry, pointsAt}
+use Rattle.entries.specs.declared.arrivals.Arrival.{Arrival}
 use Rattle.entries.specs.declared.raw.Raw.{Raw}
 use Rattle.entries.specs.declared.data.Entry.{Entry}
 use Rattle.rules.specs.Accounts.{noAccount}
@@ -76,12 +77,12 @@ unfolding findsOf lookupOf
 begins b r a e = rw e refl
 
 -- what `decision` gives after the search is the decision on the entry
-pub decided : (b : Book) (r : Raw) (s : Search) (a place : ℕ) (paid : Cents) (o : Decision) →
+pub decided : (w : Arrival) (b : Book) (r : Raw) (s : Search) (a place : ℕ) (paid : Cents) (o : Decision) →
     a ≡ slotOf (r .account) → findsOf (b .entries) (pointsAt r) s ≡ lookupOf b r → goesOnOf s ≡ false → place ≡ placeOf (s .at) → paid ≡ paidOf b r →
-    o ≡ decisionBy r (b .count) (lastOf (b .last) (r .node)) (getD (b .accounts) a noAccount) (soughtAt (foundOf s) (getD (b .entries) place noEntry)) paid →
-    o ≡ decisionOf b r
+    o ≡ decisionBy r w (b .count) (lastOf (b .last) (r .node)) (getD (b .accounts) a noAccount) (soughtAt (foundOf s) (getD (b .entries) place noEntry)) paid →
+    o ≡ decisionOf w b r
 unfolding decisionOf
-decided b r s a place paid o slot finds over stands pays decision =
+decided w b r s a place paid o slot finds over stands pays decision =
     rw (decision, stands, ends (b .entries) (pointsAt r) s over ∙ finds, pays, slot) refl
 
 place-found : (s : Search) (i : ℕ) (e f : Entry) → soughtAt (foundOf s) e ≡ found i f → placeOf (s .at) ≡ i
@@ -93,8 +94,8 @@ place-found s i e f = go (s .found)
     go false q = let z : _≡_ {A = ℕ} 0 1 = cc in absurd (omega arith)
 
 -- and the entry that it rewrites is the one that the search stands at
-pub rewrites : (b : Book) (r : Raw) (s : Search) (place i : ℕ) (x : Change) →
-    findsOf (b .entries) (pointsAt r) s ≡ lookupOf b r → goesOnOf s ≡ false → place ≡ placeOf (s .at) → decisionOf b r ≡ Accepted x → x .«named_at» ≡ At i → place ≡ i
-rewrites b r s place i x finds over stands accepted names =
-    let n = names-found b r x i accepted names in
+pub rewrites : (w : Arrival) (b : Book) (r : Raw) (s : Search) (place i : ℕ) (x : Change) →
+    findsOf (b .entries) (pointsAt r) s ≡ lookupOf b r → goesOnOf s ≡ false → place ≡ placeOf (s .at) → decisionOf w b r ≡ Accepted x → x .«named_at» ≡ At i → place ≡ i
+rewrites w b r s place i x finds over stands accepted names =
+    let n = names-found w b r x i accepted names in
     stands ∙ place-found s i (getD (b .entries) (placeOf (s .at)) noEntry) (n .0) (ends (b .entries) (pointsAt r) s over ∙ finds ∙ n .1)

@@ -8,6 +8,7 @@ use Rattle.measures.specs.Cents.{cents}
 use Rattle.entries.specs.Kinds.{kindOf, namesOf}
 use Rattle.entries.specs.Data.{noEntry, entryOf, withOf}
 use Rattle.entries.specs.Refusals.{refusalNumber}
+use Rattle.entries.specs.declared.arrivals.Arrival.the-variants.{Posted}
 use Rattle.entries.specs.declared.raw.Raw.{Raw}
 use Rattle.entries.specs.declared.data.Entry.{Entry}
 use Rattle.entries.specs.declared.data.Data.{Data}
@@ -48,11 +49,11 @@ begun r (Refused n) = record { account = noAccount; first = noEntry }
 begun r (Accepted c) = record { account = c .account; first = entryOf r 0 (c .«data») }
 
 abbrev begins : ℕ → ℕ → ℕ → ℕ → ℕ → State
-begins kind day amount a b = let r = raw 1 kind day amount a b in begun r (decisionBy r 0 0 noAccount missing (cents 0))
+begins kind day amount a b = let r = raw 1 kind day amount a b in begun r (decisionBy r Posted 0 0 noAccount missing (cents 0))
 
 -- an entry after it: each is posted as the second of a book whose node's last serial is 1
 abbrev post : State → ℕ → ℕ → ℕ → ℕ → ℕ → Decision
-post s kind day amount a b = decisionBy (raw 2 kind day amount a b) 1 1 (s .account) (found 0 (s .first)) (cents 0)
+post s kind day amount a b = decisionBy (raw 2 kind day amount a b) Posted 1 1 (s .account) (found 0 (s .first)) (cents 0)
 
 abbrev rewritten : Entry → Found → Data → Entry
 rewritten e Nothing d = e

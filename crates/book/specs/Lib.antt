@@ -1,3 +1,4 @@
+pub mod Runs
 pub mod Fresh
 pub mod Serials
 pub mod Chain

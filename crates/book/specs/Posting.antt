@@ -1,4 +1,4 @@
--- A posting: the next book, and the answer in the documents' numbers.
+-- An entry that comes in, a posted one among them: the next book, and the answer in the documents' numbers.
 use Prim.Native.Nat.{ℕ, _+_}
 use mathlib.Core.Bool.{cond}
 use mathlib.Core.List.{List, [], _∷_}
@@ -7,6 +7,8 @@ use Rattle.measures.specs.Cents.{cents}
 use Rattle.measures.specs.declared.Cents.{Cents}
 use Rattle.entries.specs.Kinds.{kindOf, sameOf}
 use Rattle.entries.specs.Data.{noEntry, entryOf, withOf, pointsAt}
+use Rattle.entries.specs.declared.arrivals.Arrival.{Arrival}
+use Rattle.entries.specs.declared.arrivals.Arrival.the-variants.{Recorded}
 use Rattle.entries.specs.declared.raw.Raw.{Raw}
 use Rattle.entries.specs.declared.kinds.Kind.the-variants as kind
 use Rattle.entries.specs.declared.data.Entry.{Entry}
@@ -22,13 +24,14 @@ use Rattle.changes.specs.declared.Change.{Change}
 use Rattle.changes.specs.declared.Decision.{Decision}
 use Rattle.changes.specs.declared.Decision.the-variants.{Refused, Accepted}
 use Rattle.book.specs.Fresh.{entriesMost}
+use Rattle.book.specs.Runs.{arrivalOf}
 use Rattle.book.specs.Serials.{lastOf, afterOf}
 use Rattle.book.specs.Chain.{slotOf, startOf, walkOf, Sought, soughtIn, paidOver}
 use Rattle.book.specs.Refusals.{decisionBy}
 use Rattle.book.specs.declared.Book.{Book}
 use Rattle.book.specs.declared.Posted.{Posted}
 
--- what a posting gives
+-- what it gives
 pub record PostedReply : Type 0 where
   pub book : Book
   pub reply : PostingReply
@@ -67,24 +70,35 @@ storedOf b r c =
           (set (b .entries) (b .count) (entryOf r (accountAt b (r .account) .newest) (c .«data»)));
       count = b .count + 1;
       last = afterOf (b .last) r;
+      run = b .run;
+      noted = b .noted;
     }
 
--- a refused posting leaves the book as it was
+-- a refused entry leaves the book as it was
 unfoldable pub decidedBook : Book → Raw → Decision → Book
 decidedBook b r (Refused n) = b
 decidedBook b r (Accepted c) = storedOf b r c
 
--- the refusal of r, or what it does
-unfoldable pub decisionOf : Book → Raw → Decision
-decisionOf b r =
-    decisionBy r (b .count) (lastOf (b .last) (r .node)) (accountAt b (r .account)) (lookupOf b r) (paidOf b r)
+-- the refusal of r, which comes in by w, or what it does
+unfoldable pub decisionOf : Arrival → Book → Raw → Decision
+decisionOf w b r =
+    decisionBy r w (b .count) (lastOf (b .last) (r .node)) (accountAt b (r .account)) (lookupOf b r) (paidOf b r)
 
-unfoldable pub postOf : Book → Raw → PostedReply
-postOf b r =
+-- r comes in by w
+unfoldable pub enterOf : Arrival → Book → Raw → PostedReply
+enterOf w b r =
     record {
-      book = decidedBook b r (decisionOf b r);
-      reply = postingReplyOf (answerOf (decisionOf b r) (b .count + 1));
+      book = decidedBook b r (decisionOf w b r);
+      reply = postingReplyOf (answerOf (decisionOf w b r) (b .count + 1));
     }
+
+-- it is posted, during a run where one is open
+unfoldable pub postOf : Book → Raw → PostedReply
+postOf b r = enterOf (arrivalOf (b .run)) b r
+
+-- it is recorded, as an image's record or by a run's step
+abbrev pub recordOf : Book → Raw → PostedReply
+recordOf b r = enterOf Recorded b r
 
 -- the book after each entry of a list is posted in turn, refused ones included
 unfoldable pub postsOf : Book → List Raw → Book

@@ -3,6 +3,7 @@ use changes::Decision;
 use changes::Found;
 use changes::naming_decision;
 use changes::own_decision;
+use entries::Arrival;
 use entries::Check;
 use entries::Entry;
 use entries::Kind;
@@ -21,12 +22,13 @@ ghost use Prim.Native.Nat.{_-_};
 ghost use Rattle.entries.specs.Kinds.{kindOf};
 ghost use Rattle.entries.specs.Data.{pointsAt};
 ghost use Rattle.book.specs.Fresh.{freshBook};
+ghost use Rattle.book.specs.Runs.{noRun, isOpen, arrivalOf};
 ghost use Rattle.book.specs.Serials.{lastOf, afterOf};
 ghost use Rattle.book.specs.Chain.{slotOf, endsOf, placeOf, startOf, walksOf};
 ghost use Rattle.book.specs.Search.{searchOf, goesOnOf, pastOf, foundOf, soughtAt};
 ghost use Rattle.book.specs.Window.{windowStart, windowOf, onwardOf};
 ghost use Rattle.book.specs.Refusals.{checkEntryOf, decisionBy};
-ghost use Rattle.book.specs.Posting.{postedReply, postOf};
+ghost use Rattle.book.specs.Posting.{postedReply, enterOf, postOf};
 
 // The last serial of each node, 0 where it has none.
 pub struct Serials {
@@ -34,10 +36,23 @@ pub struct Serials {
     pub node_2: u32,
 }
 
+// The late-charge run that is open; all zero where none is.
+pub struct Run {
+    pub node: u8,
+    pub day: u16,
+    // In hundredths of a percent.
+    pub rate: u16,
+    // The account that is charged next, 0 where no run is open.
+    pub next: u16,
+}
+
 pub struct Book {
     pub accounts: [Account; Book::ACCOUNTS],
     // Between the arrays: the compiler then fills those of a fresh book with fewer copies.
     pub last: Serials,
+    pub run: Run,
+    // Every account's arrears at the run's opening; all zero where no run is open.
+    pub noted: [Cents; Book::ACCOUNTS],
     pub entries: [Entry; Book::ENTRIES],
     // How many entries there are: they stand at the places before this one.
     pub count: u16,
@@ -90,6 +105,36 @@ impl Serials {
                 node_1: self.node_1,
                 node_2: raw.serial,
             }
+        }
+    }
+}
+
+impl Run {
+    pub fn none() -> Run
+        ensures { λ r. ⌜ r ≡ noRun ⌝ }
+    {
+        Run {
+            node: 0,
+            day: 0,
+            rate: 0,
+            next: 0,
+        }
+    }
+
+    pub fn is_open(self) -> bool
+        ensures { λ r. ⌜ r ≡ isOpen self ⌝ }
+    {
+        self.next != 0
+    }
+
+    // How a posted entry comes in.
+    pub fn arrival(self) -> Arrival
+        ensures { λ r. ⌜ r ≡ arrivalOf self ⌝ }
+    {
+        if self.is_open() {
+            Arrival::PostedInRun
+        } else {
+            Arrival::Posted
         }
     }
 }
@@ -259,12 +304,12 @@ impl Window {
     }
 }
 
-// 1 to 7: the refusals that the entry, its node's last serial and the number of entries decide.
-fn check_entry(raw: Raw, kind: Kind, count: u16, last: u32) -> Check
-    ensures { λ r. ⌜ r ≡ checkEntryOf raw kind count last ⌝ }
+// 1 to 7, and 27 before 7: the refusals that the entry, how it comes in, its node's last serial and the number of entries decide.
+fn check_entry(raw: Raw, kind: Kind, arrival: Arrival, count: u16, last: u32) -> Check
+    ensures { λ r. ⌜ r ≡ checkEntryOf raw kind arrival count last ⌝ }
 {
     Check::Passed
-        .refuse_if(kind.is(Kind::Unknown), Refusal::UnknownKind)
+        .refuse_if(arrival.unknown(kind), Refusal::UnknownKind)
         .refuse_if(!within(raw.node as u32, 1, 2), Refusal::UnknownNode)
         .refuse_if(
             !within(raw.account as u32, 1, Book::ACCOUNTS as u32),
@@ -273,6 +318,7 @@ fn check_entry(raw: Raw, kind: Kind, count: u16, last: u32) -> Check
         .refuse_if(Day::LAST < raw.day, Refusal::UnknownDay)
         .refuse_if(!raw.in_range(kind), Refusal::FieldOutOfRange)
         .refuse_if(raw.serial <= last, Refusal::SerialNotNew)
+        .refuse_if(arrival.waits(kind), Refusal::CorrectionInRun)
         .refuse_if(Book::ENTRIES <= count as usize, Refusal::BookFull)
 }
 
@@ -280,6 +326,7 @@ fn check_entry(raw: Raw, kind: Kind, count: u16, last: u32) -> Check
 // `paid` is the sum of the payments in a reduction's window.
 pub fn decision(
     raw: Raw,
+    arrival: Arrival,
     count: u16,
     last: Serials,
     account: Account,
@@ -287,10 +334,10 @@ pub fn decision(
     entry: Entry,
     paid: Cents,
 ) -> Decision
-    ensures { λ r. ⌜ r ≡ decisionBy raw count (lastOf last (raw .node)) account (soughtAt (foundOf search) entry) paid ⌝ }
+    ensures { λ r. ⌜ r ≡ decisionBy raw arrival count (lastOf last (raw .node)) account (soughtAt (foundOf search) entry) paid ⌝ }
 {
     let kind = Kind::of(raw.kind);
-    if let Check::Refused(refusal) = check_entry(raw, kind, count, last.of(raw.node)) {
+    if let Check::Refused(refusal) = check_entry(raw, kind, arrival, count, last.of(raw.node)) {
         return Decision::Refused(refusal);
     }
     if !kind.names() {
@@ -314,6 +361,7 @@ impl Book {
     {
         let account = Account::fresh();
         let entry = Entry::unused();
+        let nothing = Cents(0);
         Book {
             accounts: [account; Book::ACCOUNTS],
             entries: [entry; Book::ENTRIES],
@@ -322,12 +370,22 @@ impl Book {
                 node_1: 0,
                 node_2: 0,
             },
+            run: Run::none(),
+            noted: [nothing; Book::ACCOUNTS],
         }
     }
 
-    // Posts an entry.
-    pub fn post(mut self, raw: Raw) -> Posted
+    // Posts an entry, during a run where one is open.
+    pub fn post(self, raw: Raw) -> Posted
         ensures { λ r. ⌜ postedReply r ≡ postOf self raw ⌝ }
+    {
+        let run = self.run;
+        self.enter(raw, run.arrival())
+    }
+
+    // An entry comes in.
+    pub fn enter(mut self, raw: Raw, arrival: Arrival) -> Posted
+        ensures { λ r. ⌜ postedReply r ≡ enterOf arrival self raw ⌝ }
     {
         let count = self.count;
         let last = self.last;
@@ -347,7 +405,16 @@ impl Book {
             let passed = self.entries[i];
             window = window.past(passed);
         }
-        let decision = decision(raw, count, last, account, search, entry, window.paid);
+        let decision = decision(
+            raw,
+            arrival,
+            count,
+            last,
+            account,
+            search,
+            entry,
+            window.paid,
+        );
         let number = one_more(count);
         let answer = decision.answer(number);
         if let Decision::Accepted(change) = decision {

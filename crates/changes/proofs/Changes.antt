@@ -9,10 +9,10 @@ use Rattle.entries.specs.declared.kinds.Kind.{Kind}
 use Rattle.entries.specs.declared.kinds.Kind.the-variants as kind
 use Rattle.entries.proofs.KindsLaws.{every-kind}
 use Rattle.rules.specs.declared.accounts.Account.{Account}
-use Rattle.changes.specs.Changes.{contributionOf, billOf, paymentOf, depositOf, guaranteeOf, depositReturnOf, ownChangeOf}
+use Rattle.changes.specs.Changes.{contributionOf, billOf, paymentOf, depositOf, guaranteeOf, lateChargeOf, depositReturnOf, ownChangeOf}
 
 -- an entry that names nothing is kept as one of its own kind, so that no kind is taken for the last one
 pub own-kind : (r : Raw) (acc : Account) (k : Kind) → namesOf k ≡ false → sameOf k kind.Unknown ≡ false →
     numberOf (particularsOf (ownChangeOf r k acc .«data») .kind) ≡ numberOf k
-unfolding ownChangeOf contributionOf billOf paymentOf depositOf guaranteeOf depositReturnOf caseOf particularsOf
+unfolding ownChangeOf contributionOf billOf paymentOf depositOf guaranteeOf lateChargeOf depositReturnOf caseOf particularsOf
 own-kind r acc = every-kind _ (omega (arith, true≢false))

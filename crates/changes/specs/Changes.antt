@@ -125,14 +125,19 @@ retentionOf r acc i d =
     changeOf (withGuaranteeOf acc false) (data′.Retention (r .«named_node») (r .«named_serial»)) (At i) (retainedOf d)
     (amountsOf (cents 0) (cents 0) (particularsOf d .«guarantee_held») (cents 0))
 
--- what an entry that names nothing does: of kind 1, 3, 4, 5, 9 or else 6
+-- 12: the amount is charged
+unfoldable pub lateChargeOf : Raw → Account → Change
+lateChargeOf r acc = let amount = cents (r .amount) in aloneOf (chargedOf acc amount) (data′.LateCharge amount) nothingOf
+
+-- what an entry that names nothing does: of kind 1, 3, 4, 5, 9, 12 or else 6
 unfoldable pub ownChangeOf : Raw → Kind → Account → Change
 ownChangeOf r k acc =
     cond (sameOf k kind.Contribution) (contributionOf r acc)
     (cond (sameOf k kind.Bill) (billOf r acc)
     (cond (sameOf k kind.Payment) (paymentOf r acc)
     (cond (sameOf k kind.Deposit) (depositOf r acc)
-    (cond (sameOf k kind.Guarantee) (guaranteeOf r acc) (depositReturnOf r acc)))))
+    (cond (sameOf k kind.Guarantee) (guaranteeOf r acc)
+    (cond (sameOf k kind.LateCharge) (lateChargeOf r acc) (depositReturnOf r acc))))))
 
 -- what an entry does that names the one at place i, of data d: of kind 2, 7, 10, 11 or else 8; `paid` is the sum of the payments
 -- in a reduction's window

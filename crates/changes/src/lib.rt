@@ -19,7 +19,7 @@ use rules::interest;
 use rules::refund;
 ghost use mathlib.Core.Path.{_≡_};
 ghost use Rattle.entries.specs.Data.{entryOf, withOf};
-ghost use Rattle.changes.specs.Changes.{aloneOf, contributionOf, addedCustomerOf, billOf, paymentOf, depositOf, depositReturnOf, expiryOf, pickOf, correctionOf, guaranteeOf, reductionOf, retentionOf, ownChangeOf, namingChangeOf, ownDecisionOf, namingDecisionOf, decisionNumber, answerOf, nothingOf};
+ghost use Rattle.changes.specs.Changes.{aloneOf, contributionOf, addedCustomerOf, billOf, paymentOf, depositOf, depositReturnOf, expiryOf, pickOf, correctionOf, guaranteeOf, reductionOf, retentionOf, lateChargeOf, ownChangeOf, namingChangeOf, ownDecisionOf, namingDecisionOf, decisionNumber, answerOf, nothingOf};
 
 // Where a named entry stands in the book's array.
 pub enum Found {
@@ -303,7 +303,15 @@ fn retention(raw: Raw, account: Account, i: usize, named_data: Data) -> Change
     }
 }
 
-// What an entry that names nothing does: of kind 1, 3, 4, 5, 9 or else 6.
+// 12: the amount is charged.
+fn late_charge(raw: Raw, account: Account) -> Change
+    ensures { λ r. ⌜ r ≡ lateChargeOf raw account ⌝ }
+{
+    let amount = raw.cents();
+    Change::alone(account.charged(amount), Data::LateCharge(amount), nothing())
+}
+
+// What an entry that names nothing does: of kind 1, 3, 4, 5, 9, 12 or else 6.
 fn own_change(raw: Raw, kind: Kind, account: Account) -> Change
     ensures { λ r. ⌜ r ≡ ownChangeOf raw kind account ⌝ }
 {
@@ -321,6 +329,9 @@ fn own_change(raw: Raw, kind: Kind, account: Account) -> Change
     }
     if kind.is(Kind::Guarantee) {
         return guarantee(raw, account);
+    }
+    if kind.is(Kind::LateCharge) {
+        return late_charge(raw, account);
     }
     deposit_return(raw, account)
 }

@@ -1,5 +1,6 @@
 // The calls: each takes the book that it goes to, the session and its line's numbers, and gives the next ones and the numbers of its answer.
 use book::Book;
+use book::Posted;
 use carry_lent::AT_ONCE;
 use carry_lent::carry_first;
 use entries::Raw;
@@ -9,6 +10,10 @@ use pages::PageAnswer;
 use pages::page;
 use queries::contribution_query;
 use queries::statement;
+use runs::Ran;
+use runs::close_run;
+use runs::open_run;
+use runs::step;
 use saves::SaveAnswer;
 use saves::save;
 use text::PLACES;
@@ -232,9 +237,8 @@ impl Session {
     }
 }
 
-// p: a posting.
-fn post(book: Book, session: Session, entry: Raw, answer: &mut [u64]) -> Called {
-    let posted = book.post(entry);
+// p, t: what a posting or a run's step gives.
+fn posted(posted: Posted, session: Session, answer: &mut [u64]) -> Called {
     let given = posted.answer;
     let r = given.reply();
     let numbers = [
@@ -251,6 +255,36 @@ fn post(book: Book, session: Session, entry: Raw, answer: &mut [u64]) -> Called 
         book: next,
         session,
         count,
+    }
+}
+
+// r, c: what an opening or a close of a run gives.
+fn ran(ran: Ran, session: Session, answer: &mut [u64]) -> Called {
+    let given = ran.answer;
+    let count = tell(answer, &[given.number() as u64]);
+    let next = ran.book;
+    Called {
+        book: next,
+        session,
+        count,
+    }
+}
+
+// The calls of a run.
+fn run_call(
+    book: Book,
+    session: Session,
+    letter: u8,
+    numbers: &[u64],
+    answer: &mut [u64],
+) -> Called {
+    let node = (at(numbers, 0) % 256) as u8;
+    let day = (at(numbers, 1) % 65536) as u16;
+    let rate = (at(numbers, 2) % 65536) as u16;
+    match letter {
+        b'r' => ran(open_run(book, node, day, rate), session, answer),
+        b't' => posted(step(book), session, answer),
+        _ => ran(close_run(book), session, answer),
     }
 }
 
@@ -335,7 +369,8 @@ pub fn call(
 ) -> Called {
     let one = at(numbers, 0);
     match letter {
-        b'p' => post(book, session, entry(numbers), answer),
+        b'p' => posted(book.post(entry(numbers)), session, answer),
+        b'r' | b't' | b'c' => run_call(book, session, letter, numbers, answer),
         b'o' => {
             let mut results = [255u8; PLACES];
             let n = first(&results, one as usize);

@@ -39,17 +39,17 @@ pub extern "C" fn contribution_book_post(
     post_image(image, entry, output)
 }
 
-// Carries a run of entries over into an image.
+// Carries entries over into an image.
 #[no_mangle]
 pub extern "C" fn contribution_book_carry_over(
     image: &[u8],
-    run: &[u8],
+    entries: &[u8],
     results: &mut [u8],
     output: &mut [u8],
 ) -> CarryGiven
-    ensures { λ r. ⌜ (record { given = r; results = now (results .exit); output = now (output .exit) }) ≡ carryImage (loadOf (now (image .entry))) (now (run .entry)) (now (results .entry)) (now (output .entry)) ⌝ }
+    ensures { λ r. ⌜ (record { given = r; results = now (results .exit); output = now (output .exit) }) ≡ carryImage (loadOf (now (image .entry))) (now (entries .entry)) (now (results .entry)) (now (output .entry)) ⌝ }
 {
-    carry_image(image, run, results, output)
+    carry_image(image, entries, results, output)
 }
 
 // The statement of an account of an image.

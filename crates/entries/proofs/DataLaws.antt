@@ -11,7 +11,7 @@ use Rattle.entries.specs.declared.kinds.Kind.{Kind}
 use Rattle.entries.specs.declared.kinds.Kind.the-variants as kind
 use Rattle.entries.specs.Data.{FromContribution, FromBill, FromPayment, FromGuarantee, caseOf, ofContribution, ofBillOrPayment, ofGuarantee}
 use Rattle.entries.specs.declared.data.Data.{Data}
-use Rattle.entries.specs.declared.data.Data.the-variants.{Unused, Contribution, AddedCustomer, Bill, Payment, Deposit, DepositReturn, Expiry, Correction, Guarantee, Reduction, Retention}
+use Rattle.entries.specs.declared.data.Data.the-variants.{Unused, Contribution, AddedCustomer, Bill, Payment, Deposit, DepositReturn, Expiry, Correction, Guarantee, Reduction, Retention, LateCharge}
 
 -- the numbers of the cases, which are those of the kinds, but for some kinds
 abbrev but : (Kind → Bool) → List Kind → List ℕ
@@ -44,3 +44,4 @@ others (Correction _ _ _) = (λ f x o. refl, λ g h x o. refl, λ i x o. refl)
 others (Guarantee _ _ _ _) = (λ f x o. refl, λ g h x o. refl, λ i x o. absurd (miss notGuarantee 9 tt o))
 others (Reduction _ _) = (λ f x o. refl, λ g h x o. refl, λ i x o. refl)
 others (Retention _ _) = (λ f x o. refl, λ g h x o. refl, λ i x o. refl)
+others (LateCharge _) = (λ f x o. refl, λ g h x o. refl, λ i x o. refl)

@@ -24,6 +24,7 @@ kind-again kind.Correction = refl
 kind-again kind.Guarantee = refl
 kind-again kind.Reduction = refl
 kind-again kind.Retention = refl
+kind-again kind.LateCharge = refl
 
 pub same-kind : (k l : Kind) → sameOf k l ≡ true → k ≡ l
 same-kind k l e = sym (kind-again k) ∙ ap kindOf (eqb-true (numberOf k) (numberOf l) e) ∙ kind-again l

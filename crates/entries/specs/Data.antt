@@ -13,7 +13,7 @@ use Rattle.entries.specs.declared.kinds.Kind.the-variants as kind
 use Rattle.entries.specs.declared.data.Entry.{Entry}
 use Rattle.entries.specs.declared.data.Particulars.{Particulars}
 use Rattle.entries.specs.declared.data.Data.{Data}
-use Rattle.entries.specs.declared.data.Data.the-variants.{Unused, Contribution, AddedCustomer, Bill, Payment, Deposit, DepositReturn, Expiry, Correction, Guarantee, Reduction, Retention}
+use Rattle.entries.specs.declared.data.Data.the-variants.{Unused, Contribution, AddedCustomer, Bill, Payment, Deposit, DepositReturn, Expiry, Correction, Guarantee, Reduction, Retention, LateCharge}
 
 abbrev pub metres : ℕ → Metres
 metres n = record { 0 = n }
@@ -38,7 +38,7 @@ carries node serial e = eqb (e .node) node && eqb (e .serial) serial
 abbrev pub pointsAt : Raw → Entry → Bool
 pointsAt r e = carries (r .«named_node») (r .«named_serial») e
 
--- what the rules read of a bill or a payment: the kind, the standing amount, and whether it was corrected
+-- what the rules and the queries read of a bill, a payment or a late charge: the kind, the standing amount, and whether it was corrected
 abbrev pub correctableParticulars : Kind → Cents → Bool → Particulars
 correctableParticulars k standing corrected =
     record {
@@ -109,33 +109,35 @@ FromPayment A = Cents → Cents → Bool → A
 abbrev pub FromGuarantee : Type 0 → Type 0
 FromGuarantee A = Bool → Day → Cents → Cents → A
 
--- f of a contribution's fields, g of a bill's, h of a payment's, i of a guarantee's; of an entry that nothing names, x of its kind
-unfoldable pub caseOf : {A : Type 0} → Data → FromContribution A → FromBill A → FromPayment A → FromGuarantee A → (Kind → A) → A
-caseOf Unused f g h i x = x kind.Unknown
-caseOf (Contribution phases built added closed amount held toArrears paidOut retained) f g h i x =
+-- f of a contribution's fields, g of a bill's, h of a payment's, i of a guarantee's, j of a late charge's amount; of every other entry x of
+-- its kind
+unfoldable pub caseOf : {A : Type 0} → Data → FromContribution A → FromBill A → FromPayment A → FromGuarantee A → (Cents → A) → (Kind → A) → A
+caseOf Unused f g h i j x = x kind.Unknown
+caseOf (Contribution phases built added closed amount held toArrears paidOut retained) f g h i j x =
     f phases built added closed amount held toArrears paidOut retained
-caseOf (AddedCustomer node serial shared phases) f g h i x = x kind.AddedCustomer
-caseOf (Bill charge period served standing corrected) f g h i x = g charge period served standing corrected
-caseOf (Payment amount standing corrected) f g h i x = h amount standing corrected
-caseOf (Deposit amount rate) f g h i x = x kind.Deposit
-caseOf DepositReturn f g h i x = x kind.DepositReturn
-caseOf (Expiry node serial) f g h i x = x kind.Expiry
-caseOf (Correction node serial amount) f g h i x = x kind.Correction
-caseOf (Guarantee closed reduced amount held) f g h i x = i closed reduced amount held
-caseOf (Reduction node serial) f g h i x = x kind.Reduction
-caseOf (Retention node serial) f g h i x = x kind.Retention
+caseOf (AddedCustomer node serial shared phases) f g h i j x = x kind.AddedCustomer
+caseOf (Bill charge period served standing corrected) f g h i j x = g charge period served standing corrected
+caseOf (Payment amount standing corrected) f g h i j x = h amount standing corrected
+caseOf (Deposit amount rate) f g h i j x = x kind.Deposit
+caseOf DepositReturn f g h i j x = x kind.DepositReturn
+caseOf (Expiry node serial) f g h i j x = x kind.Expiry
+caseOf (Correction node serial amount) f g h i j x = x kind.Correction
+caseOf (Guarantee closed reduced amount held) f g h i j x = i closed reduced amount held
+caseOf (Reduction node serial) f g h i j x = x kind.Reduction
+caseOf (Retention node serial) f g h i j x = x kind.Retention
+caseOf (LateCharge amount) f g h i j x = j amount
 
 -- f of a contribution's fields; of every other entry x
 abbrev pub ofContribution : {A : Type 0} → Data → FromContribution A → A → A
-ofContribution d f x = caseOf d f (λ _ _ _ _ _. x) (λ _ _ _. x) (λ _ _ _ _. x) (λ _. x)
+ofContribution d f x = caseOf d f (λ _ _ _ _ _. x) (λ _ _ _. x) (λ _ _ _ _. x) (λ _. x) (λ _. x)
 
 -- g of a bill's fields, h of a payment's; of every other entry x
 abbrev pub ofBillOrPayment : {A : Type 0} → Data → FromBill A → FromPayment A → A → A
-ofBillOrPayment d g h x = caseOf d (λ _ _ _ _ _ _ _ _ _. x) g h (λ _ _ _ _. x) (λ _. x)
+ofBillOrPayment d g h x = caseOf d (λ _ _ _ _ _ _ _ _ _. x) g h (λ _ _ _ _. x) (λ _. x) (λ _. x)
 
 -- i of a guarantee's fields; of every other entry x
 abbrev pub ofGuarantee : {A : Type 0} → Data → FromGuarantee A → A → A
-ofGuarantee d i x = caseOf d (λ _ _ _ _ _ _ _ _ _. x) (λ _ _ _ _ _. x) (λ _ _ _. x) i (λ _. x)
+ofGuarantee d i x = caseOf d (λ _ _ _ _ _ _ _ _ _. x) (λ _ _ _ _ _. x) (λ _ _ _. x) i (λ _. x) (λ _. x)
 
 -- what the rules read of every entry
 unfoldable pub particularsOf : Data → Particulars
@@ -144,6 +146,7 @@ particularsOf d =
     (λ _ _ _ standing corrected. correctableParticulars kind.Bill standing corrected)
     (λ _ standing corrected. correctableParticulars kind.Payment standing corrected)
     (λ closed reduced _ held. guaranteeParticulars held reduced closed)
+    (λ amount. correctableParticulars kind.LateCharge amount false)
     otherParticulars
 
 abbrev pub oneMore : ℕ → ℕ

@@ -21,6 +21,7 @@ numberOf kind.Correction = 8
 numberOf kind.Guarantee = 9
 numberOf kind.Reduction = 10
 numberOf kind.Retention = 11
+numberOf kind.LateCharge = 12
 
 abbrev pub kinds : List Kind
 kinds =
@@ -36,14 +37,19 @@ kinds =
     kind.Guarantee ∷
     kind.Reduction ∷
     kind.Retention ∷
+    kind.LateCharge ∷
     []
 
--- the kind of a number; every number but 1 to 11 is unknown
+-- the kind of a number; every number but 1 to 12 is unknown
 unfoldable pub kindOf : ℕ → Kind
 kindOf n = getD kinds n kind.Unknown
 
 abbrev pub sameOf : Kind → Kind → Bool
 sameOf k l = eqb (numberOf k) (numberOf l)
+
+-- the kinds that count with bills: bills and late charges
+abbrev pub countsWithBills : Kind → Bool
+countsWithBills k = sameOf k kind.Bill || sameOf k kind.LateCharge
 
 -- the kinds that name a guarantee
 abbrev pub namesGuaranteeOf : Kind → Bool

@@ -3,3 +3,4 @@ pub mod Ranges
 pub mod Refusals
 pub mod Data
 pub mod Order
+pub mod Arrivals

@@ -44,6 +44,7 @@ limitsOf kind.Correction a = row 0 amountMost true 0 0 false 0
 limitsOf kind.Guarantee a = row 1 amountMost false 0 0 false 0
 limitsOf kind.Reduction a = row 0 0 true 0 0 false 0
 limitsOf kind.Retention a = row 0 0 true 0 0 false 0
+limitsOf kind.LateCharge a = row 0 amountMost false 0 0 false 0
 limitsOf kind.Unknown a = row 0 0 false 0 0 false 0
 
 unfoldable pub between : ℕ → ℕ → ℕ → Bool

@@ -35,6 +35,9 @@ refusalNumber no.PageBufferShort = 23
 refusalNumber no.GuaranteeOpen = 24
 refusalNumber no.ReductionEarly = 25
 refusalNumber no.RetentionEarly = 26
+refusalNumber no.CorrectionInRun = 27
+refusalNumber no.RunState = 28
+refusalNumber no.SaveInRun = 29
 
 abbrev pub elseRefused : Check → Refusal → Check
 elseRefused Passed n = Refused n

@@ -61,6 +61,7 @@ pub enum Data {
     },
     Reduction(u8, u32),
     Retention(u8, u32),
+    LateCharge(Cents),
 }
 
 pub struct Entry {
@@ -74,7 +75,7 @@ pub struct Entry {
     pub next: u16,
 }
 
-// What the rules read of an entry: a named one, or a payment in a reduction's window. A field that its kind does not have is zero or false.
+// What the rules and the queries read of an entry. A field that its kind does not have is zero or false.
 pub struct Particulars {
     pub kind: Kind,
     pub amount: Cents,
@@ -98,7 +99,7 @@ impl Particulars {
         Particulars::correctable(kind, Cents(0), false)
     }
 
-    // What the rules read of a bill or a payment.
+    // What they read of a bill or a payment, and of a late charge, which stands as it was posted.
     fn correctable(kind: Kind, standing: Cents, corrected: bool) -> Particulars
         ensures { λ r. ⌜ r ≡ correctableParticulars kind standing corrected ⌝ }
     {
@@ -200,6 +201,7 @@ impl Data {
                 held,
                 ..
             } => Particulars::guarantee(held, reduced, closed),
+            Data::LateCharge(amount) => Particulars::correctable(Kind::LateCharge, amount, false),
             Data::AddedCustomer { .. } => Particulars::other(Kind::AddedCustomer),
             Data::Deposit { .. } => Particulars::other(Kind::Deposit),
             Data::DepositReturn => Particulars::other(Kind::DepositReturn),

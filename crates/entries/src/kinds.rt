@@ -1,10 +1,10 @@
 // The kinds of entries, and the ranges of each kind's fields.
 ghost use mathlib.Core.Path.{_≡_};
 ghost use mathlib.Core.Bool.{_&&_, _||_};
-ghost use Rattle.entries.specs.Kinds.{kindOf, numberOf, sameOf, namesGuaranteeOf, namesOf, misnamesOf};
+ghost use Rattle.entries.specs.Kinds.{kindOf, numberOf, sameOf, countsWithBills, namesGuaranteeOf, namesOf, misnamesOf};
 ghost use Rattle.entries.specs.Ranges.{row, limitsOf};
 
-// The documents' kinds 1 to 11 in their order, after a case for every other number.
+// The documents' kinds 1 to 12 in their order, after a case for every other number.
 pub enum Kind {
     Unknown,
     Contribution,
@@ -18,6 +18,7 @@ pub enum Kind {
     Guarantee,
     Reduction,
     Retention,
+    LateCharge,
 }
 
 // The ends of the fields' ranges. Where `named` holds, the named node is 1 or 2 and the named serial 1 or more; else both are 0.
@@ -93,6 +94,7 @@ impl Kind {
             9 => Kind::Guarantee,
             10 => Kind::Reduction,
             11 => Kind::Retention,
+            12 => Kind::LateCharge,
             _ => Kind::Unknown,
         }
     }
@@ -113,6 +115,7 @@ impl Kind {
             Kind::Guarantee => 9,
             Kind::Reduction => 10,
             Kind::Retention => 11,
+            Kind::LateCharge => 12,
         }
     }
 
@@ -120,6 +123,13 @@ impl Kind {
         ensures { λ r. ⌜ r ≡ sameOf self other ⌝ }
     {
         self.number() == other.number()
+    }
+
+    // Whether an entry of this kind counts with bills: a bill or a late charge.
+    pub fn counts_with_bills(self) -> bool
+        ensures { λ r. ⌜ r ≡ countsWithBills self ⌝ }
+    {
+        either(self.is(Kind::Bill), self.is(Kind::LateCharge))
     }
 
     // Whether an entry of this kind names another entry.
@@ -179,6 +189,7 @@ impl Kind {
             Kind::Guarantee => Limits::row(1, Kind::AMOUNT_MOST, false, 0, 0, false, 0),
             Kind::Reduction => Limits::row(0, 0, true, 0, 0, false, 0),
             Kind::Retention => Limits::row(0, 0, true, 0, 0, false, 0),
+            Kind::LateCharge => Limits::row(0, Kind::AMOUNT_MOST, false, 0, 0, false, 0),
             Kind::Unknown => Limits::row(0, 0, false, 0, 0, false, 0),
         }
     }

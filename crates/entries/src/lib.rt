@@ -1,9 +1,11 @@
 // Entries: as they are given, as the book keeps them, the ranges of their fields, and the refusals.
+mod arrivals;
 mod data;
 mod kinds;
 mod raw;
 mod refusals;
 
+pub use arrivals::Arrival;
 pub use data::Data;
 pub use data::Entry;
 pub use data::Particulars;

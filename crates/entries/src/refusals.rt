@@ -30,6 +30,9 @@ pub enum Refusal {
     GuaranteeOpen,
     ReductionEarly,
     RetentionEarly,
+    CorrectionInRun,
+    RunState,
+    SaveInRun,
 }
 
 // What the checks so far found.
@@ -70,6 +73,9 @@ impl Refusal {
             Refusal::GuaranteeOpen => 24,
             Refusal::ReductionEarly => 25,
             Refusal::RetentionEarly => 26,
+            Refusal::CorrectionInRun => 27,
+            Refusal::RunState => 28,
+            Refusal::SaveInRun => 29,
         }
     }
 }

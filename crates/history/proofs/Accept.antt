@@ -9,12 +9,14 @@ use lib.Dec.{eqb, leb, ltb}
 use borrow.Author.Tests.{ltb-false, leb-true, leb-false, eqb-true, not-false}
 use Rattle.entries.specs.Kinds.{kindOf, sameOf}
 use Rattle.entries.specs.Ranges.{amountMost, billPeriodMost, limitsOf, bFits, inRangeOf}
+use Rattle.entries.specs.declared.arrivals.Arrival.{Arrival}
+use Rattle.entries.specs.declared.arrivals.Arrival.the-variants.{Posted, PostedInRun, Recorded}
 use Rattle.entries.specs.declared.raw.Raw.{Raw}
 use Rattle.entries.specs.declared.kinds.Kind.{Kind}
 use Rattle.entries.specs.declared.kinds.Kind.the-variants as kind
 use Rattle.entries.proofs.Ranges.{inside, Ranged, ranged}
 use Rattle.entries.proofs.KindsLaws.{every-kind, same-kind, no-kind}
-use Rattle.history.specs.History.{accounts, entries, dated, refundEnd, History, lastSerial, namingGuarantee, naming, suits, Target, absent, present, find, named, Fate, fate, paidBy, guaranteeOpen, targetEntry, targetFate, Balance, moveOf, moveBy, balance, Rule, _⇒_, firstBroken, refusals, judge, lastDay}
+use Rattle.history.specs.History.{accounts, entries, dated, refundEnd, History, lastSerial, namingGuarantee, naming, suits, Target, absent, present, find, named, Fate, fate, paidBy, guaranteeOpen, targetEntry, targetFate, Balance, moveOf, moveBy, balance, Rule, _⇒_, firstBroken, unknownSo, refusals, judgeBy, judge, lastDay}
 use Rattle.history.specs.Laws.{Valid, empty, joins}
 
 pub or-left : (a b : Bool) → (a || b) ≡ false → a ≡ false
@@ -107,9 +109,9 @@ pub record Passed (h : History) (r : Raw) (k : Kind) (e : Raw) (f : Fate) (b : B
   pub period-runs : (sameOf k kind.AddedCustomer && leb (refundEnd e) (dated (r .day))) ≡ false
   pub uncorrected : ((sameOf (kindOf (e .kind)) kind.Bill || sameOf (kindOf (e .kind)) kind.Payment) && f .corrected) ≡ false
 
-pass : (h : History) (r : Raw) (k : Kind) (e : Raw) (f : Fate) (b : Balance) → firstBroken (refusals h r k e f b) ≡ 0 → Passed h r k e f b
+pass : (h : History) (r : Raw) (k : Kind) (e : Raw) (f : Fate) (b : Balance) → firstBroken (refusals Recorded h r k e f b) ≡ 0 → Passed h r k e f b
 pass h r k e f b z =
-    let row : (n : ℕ) → rowOf n (refusals h r k e f b) .broken ≡ false = λ n. unbroken n (refusals h r k e f b) (omega arith) z in
+    let row : (n : ℕ) → rowOf n (refusals Recorded h r k e f b) .broken ≡ false = λ n. unbroken n (refusals Recorded h r k e f b) (omega arith) z in
     let node = inside (r .node) 1 2 (not-false _ (row 2)) in
     let account = inside (r .account) 1 accounts (not-false _ (row 3)) in
     record {
@@ -134,8 +136,22 @@ abbrev pub Accepts : History → Raw → Type 0
 Accepts h r = Passed h r (kindOf (r .kind)) (targetEntry (named h r)) (targetFate h (named h r)) (balance h (r .account))
 
 pub accepts : (h : History) (r : Raw) → judge h r ≡ 0 → Accepts h r
-unfolding judge
+unfolding judgeBy
 accepts h r e = pass h r _ _ _ _ e
+
+known : (w : Arrival) (k : Kind) → unknownSo w k ≡ false → sameOf k kind.Unknown ≡ false
+known Posted k e = or-left _ _ e
+known PostedInRun k e = or-left _ _ e
+known Recorded k e = e
+
+-- an entry that joins, however it comes in, passes as a recorded one
+pub recorded : (w : Arrival) (h : History) (r : Raw) → judgeBy w h r ≡ 0 → judge h r ≡ 0
+unfolding judgeBy
+recorded w h r z =
+    let k = kindOf (r .kind) in
+    let table = refusals w h r k (targetEntry (named h r)) (targetFate h (named h r)) (balance h (r .account)) in
+    let row : (n : ℕ) → rowOf n table .broken ≡ false = λ n. unbroken n table (omega arith) z in
+    rw (known w k (row 1)) (rw (row 1, row 27) at z)
 
 pub fits : {h : History} → Valid h → length h ≤ entries
 fits empty = omega arith

@@ -13,6 +13,7 @@ use Rattle.entries.specs.Ranges.{between}
 use Rattle.entries.specs.Refusals as checks
 use Rattle.entries.specs.Refusals.{refusalNumber, decidedOf}
 use Rattle.entries.specs.Data.{noEntry, entryOf, withOf}
+use Rattle.entries.specs.declared.arrivals.Arrival.{Arrival}
 use Rattle.entries.specs.declared.raw.Raw.{Raw}
 use Rattle.entries.specs.declared.kinds.Kind.{Kind}
 use Rattle.entries.specs.declared.kinds.Kind.the-variants as kind
@@ -37,16 +38,16 @@ use Rattle.book.specs.Serials.{lastOf, afterOf}
 use Rattle.book.specs.Chain as chains
 use Rattle.book.specs.Chain.{slotOf}
 use Rattle.book.specs.Refusals.{entryRows}
-use Rattle.book.specs.Posting.{accountAt, lookupOf, paidOf, entriesRewritten, storedOf, decidedBook, decisionOf, postOf}
+use Rattle.book.specs.Posting.{accountAt, lookupOf, paidOf, entriesRewritten, storedOf, decidedBook, decisionOf, enterOf}
 use Rattle.book.specs.declared.Book.{Book}
 use Rattle.book.specs.declared.Serials.{Serials}
 use Rattle.queries.specs.Chain.{walkAt}
 use Rattle.entries.proofs.RefusalsLaws.{refusal-above, checkNumber}
-use Rattle.history.specs.History.{History, accounts, entries, lastSerial, naming, Target, absent, present, find, named, filter, sum, postedFate, fateAfter, fate, paidBy, guaranteeOpen, targetEntry, targetFate, Balance, moveOf, moved, moveBy, balance, Amounts, amountsBy, amounts, judge, joined, offer, repliedBy, repliedOf, addedUp, toArrears, refundsPaid}
+use Rattle.history.specs.History.{History, accounts, entries, lastSerial, naming, Target, absent, present, find, named, filter, sum, postedFate, fateAfter, fate, paidBy, guaranteeOpen, targetEntry, targetFate, Balance, moveOf, moved, moveBy, balance, Amounts, amountsBy, amounts, judgeBy, judge, joined, offer, repliedBy, repliedOf, addedUp, toArrears, refundsPaid}
 use Rattle.history.specs.Laws.{Valid, empty, joins}
 use Rattle.history.specs.Images.{newestOf}
 use Rattle.history.specs.Agreement.{keptAccount, accountIn, keptData, dataIn, keptEntry, keptWalk, Placed, start, more, Agrees, Kept, Agreement}
-use Rattle.history.proofs.Accept.{accepts, fits, named-none, Role, alone, upon, role, named-at, move-upon}
+use Rattle.history.proofs.Accept.{accepts, recorded, fits, named-none, Role, alone, upon, role, named-at, move-upon}
 use Rattle.history.proofs.Names.{hit, fate-new, given-new, misses-kind, hits, names-points, fate-hit}
 use Rattle.history.proofs.Conserve.{divide}
 use Rattle.history.proofs.Open.{openAfter, open-own, open-other}
@@ -57,21 +58,21 @@ use Rattle.history.proofs.Effects.{changeBy, own-effect, naming-effect}
 use Rattle.history.proofs.Stored.{slot-at, rows-past, rows-miss, rows-hit}
 
 -- THE REFUSAL
-module _ {b : Book} {h : History} (w : Agrees b h) (v : Valid h) (r : Raw) where
+module _ (way : Arrival) {b : Book} {h : History} (w : Agrees b h) (v : Valid h) (r : Raw) where
   abbrev k : Kind
   k = kindOf (r .kind)
 
   abbrev table : List checks.Row
-  table = entryRows r k (b .count) (lastOf (b .last) (r .node)) ++ rows r k (accountAt b (r .account)) (namesOf k) (lookupOf b r)
+  table = entryRows r k way (b .count) (lastOf (b .last) (r .node)) ++ rows r k (accountAt b (r .account)) (namesOf k) (lookupOf b r)
 
-  pub refusal-same : checkNumber (checks.checkRows check.Passed table) ≡ judge h r
-  unfolding judge
+  pub refusal-same : checkNumber (checks.checkRows check.Passed table) ≡ judgeBy way h r
+  unfolding judgeBy
   refusal-same =
-      check-same h r k (b .count) (lastOf (b .last) (r .node)) (rows r k (accountAt b (r .account)) (namesOf k) (lookupOf b r))
+      check-same way h r k (b .count) (lastOf (b .last) (r .node)) (rows r k (accountAt b (r .account)) (namesOf k) (lookupOf b r))
       (targetEntry (named h r)) (targetFate h (named h r)) (balance h (r .account))
       (w .counted)
       (λ t. last-same w v r t)
-      (λ t d. state-same w v r t d)
+      (λ t d. state-same w v way r t d)
 
 decided-passed : (c : Check) (o : Decision) → checkNumber c ≡ 0 → decidedOf c Refused o ≡ o
 unfolding decidedOf checkNumber
@@ -87,15 +88,15 @@ module _ {b : Book} {h : History} (w : Agrees b h) (v : Valid h) (r : Raw) where
   abbrev does : Decision
   does = effect r (kindOf (r .kind)) (accountAt b (r .account)) (paidOf b r) (namesOf (kindOf (r .kind))) (lookupOf b r)
 
-  whole : decisionOf b r ≡ decidedOf (checks.checkRows check.Passed (table w v r)) Refused does
+  whole : (way : Arrival) → decisionOf way b r ≡ decidedOf (checks.checkRows check.Passed (table way w v r)) Refused does
   unfolding decisionOf
-  whole = one-table r (b .count) (lastOf (b .last) (r .node)) (accountAt b (r .account)) (lookupOf b r) (paidOf b r)
+  whole way = one-table r way (b .count) (lastOf (b .last) (r .node)) (accountAt b (r .account)) (lookupOf b r) (paidOf b r)
 
-  decision-refused : (n : ℕ) → judge h r ≡ suc n → (m : Refusal) × (decisionOf b r ≡ Refused m) × (refusalNumber m ≡ suc n)
-  decision-refused n j = let d = decided-refused _ does n (refusal-same w v r ∙ j) in (d .0, whole ∙ d .1, d .2)
+  decision-refused : (way : Arrival) (n : ℕ) → judgeBy way h r ≡ suc n → (m : Refusal) × (decisionOf way b r ≡ Refused m) × (refusalNumber m ≡ suc n)
+  decision-refused way n j = let d = decided-refused _ does n (refusal-same way w v r ∙ j) in (d .0, whole way ∙ d .1, d .2)
 
-  decision-accepted : judge h r ≡ 0 → decisionOf b r ≡ does
-  decision-accepted j = whole ∙ decided-passed _ does (refusal-same w v r ∙ j)
+  decision-accepted : (way : Arrival) → judgeBy way h r ≡ 0 → decisionOf way b r ≡ does
+  decision-accepted way j = whole way ∙ decided-passed _ does (refusal-same way w v r ∙ j)
 
 -- THE EFFECT OF AN ACCEPTED ENTRY
 -- the data of the named entry after it
@@ -156,8 +157,8 @@ module _ {b : Book} {h : History} (w : Agrees b h) (v : Valid h) (r : Raw) (j : 
       (ap Accepted (naming-effect r bal (guaranteeOpen h (r .account)) last (length h) (bounded v (r .account)) (p .room) e (paidBy h r) (fate h e) i (toArrears h e) (refundsPaid h e) (kindOf (r .kind)) (kindOf (e .kind)) n s (old .amount)
       (p .ranges .amount) (p .ranges .a) (omega (arith, added-small h e, p .room)) (standing-small v e old) (λ c. omega (arith, rw c at (divide v e member .0), old .amount))))
 
-  pub decision : decisionOf b r ≡ Accepted theChange
-  decision = decision-accepted w v r j ∙ effect-by (role h r j)
+  pub decision : (way : Arrival) → judgeBy way h r ≡ 0 → decisionOf way b r ≡ Accepted theChange
+  decision way e = decision-accepted w v r way e ∙ effect-by (role h r j)
 
   -- the entries of the next book
   abbrev es₁ : List Entry
@@ -289,25 +290,27 @@ fresh-agrees =
       unused = λ i l. no-entry entries i;
     }
 
-module _ (b : Book) (h : History) (w : Kept b h) (r : Raw) where
-  replied : postOf b r .reply ≡ repliedOf h r
-  unfolding postOf repliedOf postingReplyOf answerOf amounts
-  replied = go (judge h r) refl
+module _ (way : Arrival) (b : Book) (h : History) (w : Kept b h) (r : Raw) where
+  replied : enterOf way b r .reply ≡ repliedOf way h r
+  unfolding enterOf repliedOf postingReplyOf answerOf amounts
+  replied = go (judgeBy way h r) refl
     where
-      go : (n : ℕ) → judge h r ≡ n → postingReplyOf (answerOf (decisionOf b r) (b .count + 1)) ≡ repliedBy n (length h + 1) (amounts h r)
-      go zero j = rw (decision (w .agrees) (w .valid) r j, w .agrees .counted) refl
-      go (suc n) j = let m = decision-refused (w .agrees) (w .valid) r n j in rw (m .1, m .2) refl
+      go : (n : ℕ) → judgeBy way h r ≡ n → postingReplyOf (answerOf (decisionOf way b r) (b .count + 1)) ≡ repliedBy n (length h + 1) (amounts h r)
+      go zero j = rw (decision (w .agrees) (w .valid) r (recorded way h r j) way j, w .agrees .counted) refl
+      go (suc n) j = let m = decision-refused (w .agrees) (w .valid) r way n j in rw (m .1, m .2) refl
 
-  posts : Kept (postOf b r .book) (offer h r)
-  unfolding postOf offer decidedBook
-  posts = go (judge h r) refl
+  enters : Kept (enterOf way b r .book) (offer way h r)
+  unfolding enterOf offer decidedBook
+  enters = go (judgeBy way h r) refl
     where
-      go : (n : ℕ) → judge h r ≡ n → Kept (decidedBook b r (decisionOf b r)) (joined n r h)
-      go zero j = rw (decision (w .agrees) (w .valid) r j) (record { agrees = agree-step (w .agrees) (w .valid) r j; valid = joins (w .valid) j })
-      go (suc n) j = rw (decision-refused (w .agrees) (w .valid) r n j .1) w
+      go : (n : ℕ) → judgeBy way h r ≡ n → Kept (decidedBook b r (decisionOf way b r)) (joined n r h)
+      go zero j =
+          let k = recorded way h r j in
+          rw (decision (w .agrees) (w .valid) r k way j) (record { agrees = agree-step (w .agrees) (w .valid) r k; valid = joins (w .valid) k })
+      go (suc n) j = rw (decision-refused (w .agrees) (w .valid) r way n j .1) w
 
 chain : (b : Book) (h : History) → Kept b h → (a : ℕ) → 1 ≤ a → a ≤ accounts → walkAt b a ≡ keptWalk h h a
 chain b h w a l m = rw (w .agrees .account a l m) (walk h (b .entries) a (w .agrees .rows) (fits (w .valid)) entries (fits (w .valid)))
 
 pub agreement : Agreement
-agreement = record { fresh = record { agrees = fresh-agrees; valid = empty }; replied = replied; posted = posts; chain = chain }
+agreement = record { fresh = record { agrees = fresh-agrees; valid = empty }; replied = replied; entered = enters; chain = chain }

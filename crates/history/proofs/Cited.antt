@@ -6,8 +6,9 @@ use mathlib.Core.Bool.{true, cond, not, _&&_, true≢false}
 use mathlib.Core.List.{List, [], _∷_, _++_}
 use lib.ListN.{length, take, drop}
 use lib.Seq.{take-all, take-at, drop-at}
-use borrow.Author.Tests.{leb-true, le-leb, le-ltb}
+use borrow.Author.Tests.{leb-true, le-leb, lt-leb, le-ltb}
 use Rattle.measures.specs.Cents.{most}
+use Rattle.measures.specs.Rounding.{rounded}
 use Rattle.calendar.specs.Dates.{dateOf}
 use Rattle.entries.specs.Kinds.{kindOf, sameOf}
 use Rattle.entries.specs.Ranges.{between}
@@ -21,18 +22,21 @@ use Rattle.queries.specs.Statements.{statementOf}
 use Rattle.queries.specs.declared.statements.StatementReply.{StatementReply}
 use Rattle.pages.specs.Rows.{pageRows, AllLines}
 use Rattle.pages.specs.Pages.{pageOf}
-use Rattle.history.specs.History.{History, accounts, entries, points, fate, total, amounts, entriesOf, settledBy, paidOutBy, toArrears, refundsPaid, customers, paidBy}
+use Rattle.history.specs.History.{History, accounts, entries, lastSerial, points, fate, total, amounts, entriesOf, settledBy, paidOutBy, toArrears, refundsPaid, customers, paidBy}
 use Rattle.history.specs.Laws.{In, newest, older, AccountSums, sumsOf, Refunds, Reduces, Once, Each, HasContribution}
 use Rattle.history.specs.Queries.{statementBy, statementIn, entryLinesIn, pageTextIn, pageIn}
-use Rattle.history.specs.Agreement.{Kept}
-use Rattle.history.specs.Calls.{Call, answersIn, historyOf}
+use Rattle.history.specs.Runs.{Noted, State}
+use Rattle.history.specs.Agreement.{Kept, RunKept}
+use Rattle.history.specs.Calls.{Call, posting, step, callIn, answersIn, stateOf, historyOf}
 use Rattle.history.specs.Claim.{bookOf, answersOf, guaranteeHeldOf}
 use Rattle.history.specs.Witness.{calls, answers}
+use Rattle.history.specs.RunFigures as counter
 use Rattle.history.proofs.Tests.{tested}
 use Rattle.history.proofs.Queries.{statement-same}
 use Rattle.history.proofs.Pages.{page-same, pages-formed}
 use Rattle.history.proofs.Claim.{demand3}
 use Rattle.history.proofs.Witness.{witnessed}
+use Rattle.history.proofs.RunFigures.{run-figures}
 
 middle : (x : History) (e : Raw) (y : History) → In e (x ++ e ∷ y)
 middle [] e y = newest refl
@@ -60,6 +64,10 @@ module _ (cs : List Call) where
 
   kept : Kept b h
   kept = demand3 cs .kept
+
+  -- and the history's run
+  running : RunKept (b .run) (b .noted) (stateOf cs .run)
+  running = demand3 cs .run
 
   -- the sums, with the book's amounts
   conserved : (a : ℕ) → 1 ≤ a → a ≤ accounts →
@@ -145,6 +153,37 @@ module _ (cs : List Call) where
   counts : (e : Raw) → (b .count ≤ entries) × (fate h e .added < 65535)
   counts e = let d = demand3 cs in omega (arith, d .kept .agrees .counted, d .bounded .room, d .bounded .added e)
 
+-- RUNS, by the history
+module _ (s : State) where
+  -- a posting leaves the run: a payment that comes in meanwhile lowers no noted arrears
+  unmoved : (r : Raw) → callIn s (posting r) .0 .run ≡ s .run
+  unfolding callIn
+  unmoved r = refl
+
+  -- a step that is not refused charges the account that comes next, and no other, on its noted arrears
+  charges : (n : Noted) (ns : List Noted) → s .run .left ≡ n ∷ ns → lastSerial (s .entries) (s .run .node) < 4294967295 → length (s .entries) < 1024 →
+      let t = callIn s step .0 in
+      let charge : Raw =
+      record {
+        kind = 12;
+        node = s .run .node;
+        account = n .account;
+        day = s .run .day;
+        serial = lastSerial (s .entries) (s .run .node) + 1;
+        amount = min (rounded (n .arrears * s .run .rate) 10000) 100000000;
+        «named_serial» = 0;
+        a = 0;
+        b = 0;
+        «named_node» = 0;
+      } in
+      (t .entries ≡ charge ∷ s .entries) × (t .run .left ≡ ns)
+  unfolding callIn
+  charges n ns e serial room = rw (e, le-ltb 4294967295 (lastSerial (s .entries) (s .run .node) + 1) (omega arith), lt-leb 1024 (length (s .entries)) room) (refl, refl)
+
 -- the book's own answers to the witness's list
 shown : answersOf calls ≡ answers
 shown = demand3 calls .answered ∙ witnessed .answered
+
+-- and to that of a run
+run-shown : answersOf counter.calls ≡ counter.answers
+run-shown = demand3 counter.calls .answered ∙ run-figures .answered

@@ -15,7 +15,7 @@ use Rattle.entries.proofs.Ranges.{both-true}
 use Rattle.entries.proofs.KindsLaws.{every-kind}
 use Rattle.rules.specs.Formulas.{billed}
 use Rattle.rules.specs.Moves.{settles, leaves, covers, owes}
-use Rattle.history.specs.History.{History, naming, suits, points, names, present, find, named, targetEntry, targetFate, Fate, fateOf, postedFate, fateAfter, sum, fate, total, paidBy, Balance, Move, stays, restates, refunds, deposits, returns, retains, moveOf, moved, moveBy, balance, Amounts, amountsBy, amounts, judge, filter, onAccount, entriesOf, Reading, amountOf, standingAmount, heldOf, heldAmount, addedUp, givesBack, customers}
+use Rattle.history.specs.History.{History, naming, suits, points, names, present, find, named, targetEntry, targetFate, Fate, fateOf, postedFate, fateAfter, sum, fate, total, paidBy, Balance, Move, stays, restates, refunds, deposits, returns, retains, moveOf, moved, moveBy, balance, Amounts, amountsBy, amounts, judge, filter, onAccount, entriesOf, Reading, amountOf, standingAmount, billedAmount, heldOf, heldAmount, addedUp, givesBack, customers}
 use Rattle.history.specs.Laws.{Valid, empty, joins, In, newest, older, sumsOf, Conserved, Divided, Refunds, Reduces, Each}
 use Rattle.history.proofs.Accept.{or-left, accepts, Role, alone, upon, role, named-at, accepts-upon, move-upon, upon-cases}
 use Rattle.history.proofs.Names.{pointed, hit, aimed, fate-new, given-new, Misses, none, miss, Hits, first, later, misses-kind, hits, fate-cases, fate-miss, fate-hit, gives-miss}
@@ -54,9 +54,9 @@ total-plus f g all (e ∷ es) = omega (arith, total-plus f g all es)
 abbrev brings : Reading
 brings k e f = amountOf kind.Contribution k e f + standingAmount kind.Payment k e f + amountOf kind.Deposit k e f + amountOf kind.Guarantee k e f
 
--- What it holds: a bill its standing amount, which stands on this side of the sum, a contribution and a guarantee what is held.
+-- What it holds: a bill its standing amount and a late charge its own, which stand on this side of the sum, a contribution and a guarantee what is held.
 abbrev holds : Reading
-holds k e f = standingAmount kind.Bill k e f + heldAmount k e f + heldOf kind.Guarantee k e f
+holds k e f = billedAmount k e f + heldAmount k e f + heldOf kind.Guarantee k e f
 
 -- a kind whose amount is 1 or more stands on one of the two sides
 accounted : (e : Raw) (f : Fate) → 1 ≤ e .amount → 1 ≤ f .held → 1 ≤ f .standing → (k : Kind) → 1 ≤ limitsOf k (e .a) .«amount_low» →
@@ -199,7 +199,7 @@ conserve {h} v a =
     let contributions = amountOf kind.Contribution in
     let payments = standingAmount kind.Payment in
     let deposits = amountOf kind.Deposit in
-    let bills = standingAmount kind.Bill in
+    let bills = billedAmount in
     omega (
       arith,
       even v a,

@@ -1,4 +1,4 @@
--- A history determines the book that keeps it.
+-- A history determines the book that keeps it, but for its run.
 use mathlib.Core.Path.{_≡_, sym, _∙_}
 use Prim.Native.Nat.{ℕ, _+_, _<_}
 use native.Mathlib.Omega.{arith}
@@ -11,7 +11,10 @@ use Rattle.entries.specs.Data.{noEntry}
 use Rattle.entries.specs.declared.data.Entry.{Entry}
 use Rattle.rules.specs.Accounts.{noAccount}
 use Rattle.book.specs.declared.Book.{Book}
+use Rattle.book.specs.Fresh.{noneNoted}
+use Rattle.book.specs.Runs.{noRun}
 use Rattle.book.specs.Chain.{slotOf}
+use Rattle.runs.specs.Runs.{withoutRun}
 use Rattle.history.specs.History.{History, accounts}
 use Rattle.history.specs.Agreement.{Placed, start, more, Agrees, Determined}
 use Rattle.history.proofs.Tests.{tested}
@@ -23,9 +26,17 @@ row-same {es = es} {fs} (more {h = h} e rs) (more f ss) i l =
     tested (λ t. getD es i noEntry ≡ getD fs i noEntry) (eqb i (length h)) (λ q. rw (eqb-true i (length h) q) (e ∙ sym f))
     (λ q. let ne = eqb-false i (length h) q in row-same rs ss i (omega arith))
 
--- a book by its fields
+-- a book without its run, by its fields
 abbrev whole : Book → Book
-whole b = record { accounts = b .accounts; entries = b .entries; count = b .count; last = record { «node_1» = b .last .«node_1»; «node_2» = b .last .«node_2» } }
+whole b =
+    record {
+      accounts = b .accounts;
+      entries = b .entries;
+      count = b .count;
+      last = record { «node_1» = b .last .«node_1»; «node_2» = b .last .«node_2» };
+      run = noRun;
+      noted = noneNoted;
+    }
 
 module _ {b c : Book} {h : History} (v : Agrees b h) (w : Agrees c h) where
   entries-same : b .entries ≡ c .entries
@@ -47,4 +58,5 @@ module _ {b c : Book} {h : History} (v : Agrees b h) (w : Agrees c h) where
   same = cc (entries-same, accounts-same)
 
 pub determined : Determined
+unfolding withoutRun
 determined b c h v w = same (v .agrees) (w .agrees)

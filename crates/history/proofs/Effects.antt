@@ -19,7 +19,7 @@ use Rattle.rules.specs.Moves.{settles, leaves, covers, owes}
 use Rattle.rules.specs.Formulas.{billed, interest, givenBackOf}
 use Rattle.rules.specs.Accounts.{creditedOf, plusCreditOf, chargedOf, withDepositOf, withGuaranteeOf}
 use Rattle.rules.specs.Answers.{amountsOf}
-use Rattle.changes.specs.Changes.{changeOf, contributionOf, addedCustomerOf, billOf, paymentOf, depositOf, depositReturnOf, expiryOf, correctionOf, guaranteeOf, reductionOf, retentionOf, ownChangeOf, namingChangeOf}
+use Rattle.changes.specs.Changes.{changeOf, contributionOf, addedCustomerOf, billOf, paymentOf, depositOf, depositReturnOf, expiryOf, correctionOf, guaranteeOf, lateChargeOf, reductionOf, retentionOf, ownChangeOf, namingChangeOf}
 use Rattle.rules.specs.declared.accounts.Credited.{Credited}
 use Rattle.rules.specs.declared.answers.Amounts as four′
 use Rattle.changes.specs.declared.Found.{Found}
@@ -87,7 +87,7 @@ module _ (r : Raw) (b : Balance) (guarantee : Bool) (newest n : ℕ) (w : Small 
   -- of an entry that names nothing
   pub own-effect : (l : Kind) (e : Raw) (sum : ℕ) (f : Fate) (k : Kind) → naming k ≡ false → sameOf k kind.Unknown ≡ false → FieldsInRange r k → r .day ≤ lastDay →
       ownChangeOf r k (keptAccount b guarantee newest) ≡ changeBy (moveOf k l r b e sum f) b (openAfter k guarantee) newest (keptData k r (postedAs k r) 0 0) Nothing data′.Unused
-  unfolding ownChangeOf contributionOf billOf paymentOf depositOf depositReturnOf guaranteeOf creditedOf withDepositOf withGuaranteeOf
+  unfolding ownChangeOf contributionOf billOf paymentOf depositOf depositReturnOf guaranteeOf lateChargeOf creditedOf withDepositOf withGuaranteeOf
   own-effect l e sum f kind.Unknown a u s d = absurd (true≢false u)
   own-effect l e sum f kind.Contribution a u s d = refl
   own-effect l e sum f kind.AddedCustomer a u s d = absurd (true≢false a)
@@ -105,6 +105,7 @@ module _ (r : Raw) (b : Balance) (guarantee : Bool) (newest n : ℕ) (w : Small 
   own-effect l e sum f kind.Guarantee a u s d = refl
   own-effect l e sum f kind.Reduction a u s d = absurd (true≢false a)
   own-effect l e sum f kind.Retention a u s d = absurd (true≢false a)
+  own-effect l e sum f kind.LateCharge a u s d = rw (charged-plain b guarantee newest (r .amount) (omega (arith, s .amount))) (simp zeros)
 
   -- of one that names e, at place i, of which `settled` and `paid` are refunded; `sum` is that of the payments that a reduction counts
   module _ (e : Raw) (sum : ℕ) (g : Fate) (i settled paid : ℕ) where

@@ -8,15 +8,21 @@ use lib.ListN.{length, take, drop}
 use lib.Seq.{take-at}
 use lib.Dec.{eqb}
 use borrow.Author.Tests.{eqb-true, eqb-false}
+use Rattle.entries.specs.declared.arrivals.Arrival.the-variants.{Posted}
 use Rattle.entries.specs.declared.raw.Raw.{Raw}
 use Rattle.codec.specs.Records.{recordBytes}
 use Rattle.codec.specs.Headers.{headerOf}
+use Rattle.book.specs.Runs.{isOpen, arrivalOf}
+use Rattle.book.specs.Posting.{postOf, postsOf}
 use Rattle.book.specs.declared.Book.{Book}
+use Rattle.book.specs.declared.Run.{Run}
+use Rattle.book.proofs.Posting.{posts-run}
+use Rattle.runs.specs.Runs.{withoutRun}
 use Rattle.replays.specs.Loaded.{acceptedLoad}
 use Rattle.carry.specs.Carry.{carryRefusalOf}
 use Rattle.entries.specs.Order.{firstRefusal}
 use Rattle.image_post.specs.Postings.{PostingExit, readEntry, postRefusal, postInto, postImage}
-use Rattle.image_carry.specs.Carries.{CarryExit, readRun, carryRefusal, carryInto, carryImage}
+use Rattle.image_carry.specs.Carries.{CarryExit, readEntries, carryRefusal, carryInto, carryImage}
 use Rattle.image_read.specs.Reads.{statementImage, contributionImage}
 use Rattle.image_page.specs.Pages.{pageImage}
 use Rattle.history.specs.History.{History, offer, offers}
@@ -28,7 +34,8 @@ use Rattle.history.specs.Hosts.{HostQuery, check, statement, contributio
 use Rattle.history.proofs.Tests.{tested, either}
 use Rattle.history.proofs.Agreement.{agreement}
 use Rattle.history.proofs.Laws.{offered, laws}
-use Rattle.history.proofs.Carry.{replied-number, posts-same, results-same}
+use Rattle.history.proofs.Carry.{replied-number, posted-kept, posted-same, posted-run, posts-same, results-same}
+use Rattle.history.proofs.Runs.{idle-run}
 use Rattle.history.proofs.Calls.{lists-same}
 use Rattle.history.proofs.Queries.{statement-same, contribution-same}
 use Rattle.history.proofs.Pages.{page-same}
@@ -37,18 +44,30 @@ use Rattle.history.proofs.Trips.{length-image, loads, image-loads, imag
 
 -- WHAT A CALL GIVES, ON THE BOOK THAT KEEPS A HISTORY
 
-module _ {b : Book} {h : History} (w : Kept b h) where
+-- it has no run: an image holds none
+module _ {b : Book} {h : History} (w : Kept b h) (idle : withoutRun b ≡ b) where
+  none-open : (run : Run) → run ≡ b .run → isOpen run ≡ false
+  none-open run e = rw (e, idle-run b idle .0) refl
+
+  so : arrivalOf (b .run) ≡ Posted
+  unfolding arrivalOf
+  so = rw (idle-run b idle .0) refl
+
   post-same : (entry output : List ℕ) → postInto b entry output ≡ postIn h entry output
   unfolding postInto postIn postRefusal
   post-same entry output =
-      let next = agreement .posted b h w (readEntry entry) in
-      rw (agreement .replied b h w (readEntry entry), replied-number h (readEntry entry), save-same next output, bytes-same next, saved-same next output) refl
+      let r = readEntry entry in
+      let next = posted-kept Posted w so r in
+      let shut = none-open (postOf b r .book .run) (posted-run Posted w so r .0) in
+      rw (posted-same Posted w so r, replied-number Posted h r, save-same next shut output, bytes-same next, saved-same next shut output) refl
 
-  carry-same : (run results output : List ℕ) → carryInto b run results output ≡ carryIn h run results output
+  carry-same : (entries results output : List ℕ) → carryInto b entries results output ≡ carryIn h entries results output
   unfolding carryInto carryIn carryRefusal carryRefusalOf
-  carry-same run results output =
-      let next = posts-same w (readRun run) .0 in
-      rw (save-same next output, bytes-same next, saved-same next output, results-same w (readRun run) results) refl
+  carry-same entries results output =
+      let rs = readEntries entries in
+      let next = posts-same Posted w so rs .0 in
+      let shut = none-open (postsOf b rs .run) (posts-run b rs .0) in
+      rw (save-same next shut output, bytes-same next, saved-same next shut output, results-same Posted w so rs results) refl
 
   query-same : (q : HostQuery) → hostQueryOf (acceptedLoad b) q ≡ hostQueryIn h q
   unfolding hostQueryOf hostQueryIn statementImage contributionImage pageImage
@@ -81,34 +100,34 @@ front h output e =
 abbrev Sound : History → Type 0
 Sound h = Valid h × AllTyped h
 
-sound-offers : (rs : List Raw) (h : History) → AllTyped rs → Sound h → Sound (offers h rs)
+sound-offers : (rs : List Raw) (h : History) → AllTyped rs → Sound h → Sound (offers Posted h rs)
 sound-offers [] h t s = s
-sound-offers (r ∷ rs) h t s = sound-offers rs (offer h r) (t .1) (offered Sound h r (λ j. (joins (s .0) j, (t .0, s .1))) s)
+sound-offers (r ∷ rs) h t s = sound-offers rs (offer Posted h r) (t .1) (offered Sound Posted h r (λ j. (joins (s .0) j, (t .0, s .1))) s)
 
-sound-next : (t : Bool) (rs : List Raw) (h : History) → AllTyped rs → Sound h → Sound (cond t (offers h rs) h)
+sound-next : (t : Bool) (rs : List Raw) (h : History) → AllTyped rs → Sound h → Sound (cond t (offers Posted h rs) h)
 sound-next true rs h g s = sound-offers rs h g s
 sound-next false rs h g s = s
 
 call-same : {h : History} → Sound h → (c : HostCall) → Lent c →
     Sound (hostIn h c .0) × (hostOf (imageIn h) c .0 ≡ imageIn (hostIn h c .0)) × (hostOf (imageIn h) c .1 ≡ hostIn h c .1)
-unfolding hostOf hostIn postImage carryImage postIn carryIn readRun
+unfolding hostOf hostIn postImage carryImage postIn carryIn readEntries
 call-same {h} s (posting entry output) g =
     let t = eqb (postRefusalIn h entry output) 0 in
-    rw (image-loads (s .0) (s .1), post-same (loads (s .0) .kept) entry output) (
+    rw (image-loads (s .0) (s .1), post-same (loads (s .0) .kept) (loads (s .0) .idle) entry output) (
       sound-next t (readEntry entry ∷ []) h (decoded-typed 1 entry g) s,
       either (λ (o : PostingExit) (k : History). wrote (imageIn h) (o .given .refusal) (o .given .bytes) (o .output) ≡ imageIn k) t
-          (λ e. let z = none _ (eqb-true _ 0 e) in rw (replied-number h (readEntry entry) ∙ z .1 .0) (front _ output (z .1 .1 .0))) (λ e. rw e refl),
+          (λ e. let z = none _ (eqb-true _ 0 e) in rw (replied-number Posted h (readEntry entry) ∙ z .1 .0) (front _ output (z .1 .1 .0))) (λ e. rw e refl),
       refl,
     )
-call-same {h} s (carryOver run results output) g =
-    let t = eqb (carryRefusalIn h run results output) 0 in
-    rw (image-loads (s .0) (s .1), carry-same (loads (s .0) .kept) run results output) (
-      sound-next t (readRun run) h (decoded-typed (length run / recordBytes) run g) s,
+call-same {h} s (carryOver entries results output) g =
+    let t = eqb (carryRefusalIn h entries results output) 0 in
+    rw (image-loads (s .0) (s .1), carry-same (loads (s .0) .kept) (loads (s .0) .idle) entries results output) (
+      sound-next t (readEntries entries) h (decoded-typed (length entries / recordBytes) entries g) s,
       either (λ (o : CarryExit) (k : History). wrote (imageIn h) (o .given .refusal) (o .given .bytes) (o .output) ≡ imageIn k) t
           (λ e. front _ output (none _ (eqb-true _ 0 e) .1 .1 .0)) (λ e. rw e refl),
       refl,
     )
-call-same s (query q) g = rw (image-loads (s .0) (s .1)) (s, refl, ap queried (query-same (loads (s .0) .kept) q))
+call-same s (query q) g = rw (image-loads (s .0) (s .1)) (s, refl, ap queried (query-same (loads (s .0) .kept) (loads (s .0) .idle) q))
 
 -- LISTS OF CALLS
 

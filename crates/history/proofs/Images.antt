@@ -16,8 +16,10 @@ use Rattle.entries.specs.declared.kinds.Kind.the-variants as kind
 use Rattle.entries.specs.declared.data.Entry.{Entry}
 use Rattle.entries.proofs.Ranges.{both-true, Ranged}
 use Rattle.entries.proofs.KindsLaws.{number-again}
+use Rattle.book.specs.Runs.{isOpen}
 use Rattle.book.specs.declared.Book.{Book}
 use Rattle.saves.specs.Saves.{rawWith, rawOf, entryRecord, entryCount, bytesOf, imageOf, refusedSave, acceptedSave, saveOf, savedIn}
+use Rattle.saves.proofs.Saves.{save-no-run}
 use Rattle.history.specs.History.{History, Fate, judge}
 use Rattle.history.specs.Laws.{Valid, empty, joins}
 use Rattle.history.specs.Images.{newestOf, recordsBy, imageIn, bytesIn, shortIn, roomIn, savedBy}
@@ -70,6 +72,7 @@ raw-kept r kind.Correction f s p next e g n y = same-raw (omega arith)
 raw-kept r kind.Guarantee f s p next e g n y = same-raw (omega arith)
 raw-kept r kind.Reduction f s p next e g n y = same-raw (omega arith)
 raw-kept r kind.Retention f s p next e g n y = same-raw (omega arith)
+raw-kept r kind.LateCharge f s p next e g n y = same-raw (omega arith)
 
 pub record-kept : (all h : History) (r : Raw) → judge h r ≡ 0 → entryRecord (keptEntry all h r) ≡ record { raw = r; next = newestOf h (r .account) }
 unfolding rawOf entryOf
@@ -98,13 +101,13 @@ module _ {b : Book} {h : History} (w : Kept b h) where
   pub bytes-same : bytesOf b ≡ bytesIn h
   bytes-same = rw size-same refl
 
-  -- a save's answer, and its buffer
-  pub save-same : (buffer : List ℕ) → saveOf b buffer ≡ record { refusal = roomIn h buffer; bytes = cond (shortIn h buffer) 0 (bytesIn h) }
-  unfolding saveOf
-  save-same buffer =
-      rw bytes-same
-      (tested (λ t. cond t (refusedSave 21) (acceptedSave (bytesIn h)) ≡ record { refusal = cond t 21 0; bytes = cond t 0 (bytesIn h) }) (shortIn h buffer) (λ e. refl) (λ e. refl))
+  -- where no run is open, a save's answer, and its buffer
+  module _ (idle : isOpen (b .run) ≡ false) (buffer : List ℕ) where
+    pub save-same : saveOf b buffer ≡ record { refusal = roomIn h buffer; bytes = cond (shortIn h buffer) 0 (bytesIn h) }
+    save-same =
+        rw (save-no-run b buffer idle .0, bytes-same)
+        (tested (λ t. cond t (refusedSave 21) (acceptedSave (bytesIn h)) ≡ record { refusal = cond t 21 0; bytes = cond t 0 (bytesIn h) }) (shortIn h buffer) (λ e. refl) (λ e. refl))
 
-  pub saved-same : (buffer : List ℕ) → savedIn b buffer ≡ savedBy h buffer
-  unfolding savedIn savedBy
-  saved-same buffer = rw (bytes-same, image-kept) refl
+    pub saved-same : savedIn b buffer ≡ savedBy h buffer
+    unfolding savedBy
+    saved-same = rw (save-no-run b buffer idle .1, bytes-same, image-kept) refl

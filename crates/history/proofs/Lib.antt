@@ -15,6 +15,7 @@ pub mod Guarantees
 pub mod Images
 pub mod Calls
 pub mod Carry
+pub mod Runs
 pub mod Queries
 pub mod Pages
 pub mod Claim
@@ -22,4 +23,5 @@ pub mod Trips
 pub mod Hosts
 pub mod PageFigures
 pub mod Witness
+pub mod RunFigures
 pub mod Cited

@@ -34,9 +34,9 @@ use Rattle.history.proofs.Images.{record-kept}
 use Rattle.history.proofs.Agreement.{agreement}
 use Rattle.history.proofs.Queries.{statement-same}
 
-picked : (t : Bool) (x y : ℕ) → cond t (cond t x 0) y ≡ cond t x y
-picked true x y = refl
-picked false x y = refl
+picked : (t : Bool) (x y z : ℕ) → cond t (cond t x z) y ≡ cond t x y
+picked true x y z = refl
+picked false x y z = refl
 
 module _ (all : History) where
   -- the line of an accepted entry, from what the book keeps of it

@@ -1,6 +1,6 @@
 -- A statement and a contribution query give what the history has.
 use mathlib.Core.Path.{_≡_, refl, ap}
-use Prim.Native.Nat.{ℕ, zero, suc, min, _≤_}
+use Prim.Native.Nat.{ℕ, zero, suc, _+_, min, _≤_}
 use native.Mathlib.Omega.{arith}
 use native.Mathlib.Nat.{min-eq-left}
 use mathlib.Core.Bool.{Bool, true, false, cond, not, _||_}
@@ -8,8 +8,8 @@ use mathlib.Core.List.{List, [], _∷_}
 use lib.ListN.{length, take}
 use lib.Dec.{eqb}
 use Rattle.measures.specs.Cents.{most}
-use Rattle.entries.specs.Kinds.{kindOf, sameOf}
-use Rattle.entries.specs.Ranges.{between}
+use Rattle.entries.specs.Kinds.{kindOf, sameOf, countsWithBills}
+use Rattle.entries.specs.Ranges.{amountMost, between}
 use Rattle.entries.specs.Refusals.{refuseIf, decidedOf}
 use Rattle.entries.specs.Data.{entryOf, caseOf, carries}
 use Rattle.entries.specs.declared.raw.Raw.{Raw}
@@ -20,21 +20,22 @@ use Rattle.entries.specs.declared.data.Particulars.{Particulars}
 use Rattle.entries.specs.declared.refusals.Refusal.the-variants as no
 use Rattle.entries.specs.declared.refusals.Check.the-variants as check
 use Rattle.entries.proofs.Ranges.{inside}
+use Rattle.entries.proofs.KindsLaws.{every-kind}
 use Rattle.book.specs.Chain as books
 use Rattle.book.specs.Chain.{soughtIn}
 use Rattle.book.specs.Posting.{accountAt}
 use Rattle.book.specs.declared.Book.{Book}
-use Rattle.queries.specs.Chain.{walkAt, entriesIn, chainAt, totalOf, standingOf}
+use Rattle.queries.specs.Chain.{walkAt, entriesIn, chainAt, totalOf, standingOf, isPayment}
 use Rattle.queries.specs.Chain as chains
 use Rattle.queries.specs.Statements.{statementReplyOf, givenOf, statementOf}
 use Rattle.queries.specs.Contributions.{contributionReplyOf, contributionFiguresOf, contributionQueryOf, knownOf}
 use Rattle.queries.specs.declared.statements.StatementAnswer.the-variants as statement
 use Rattle.queries.specs.declared.contributions.ContributionAnswer.the-variants as contribution
-use Rattle.history.specs.History.{History, accounts, Target, find, fate, targetEntry, pointerTo, filter, entriesOf, Reading, sum, total, standingAmount, heldAmount, toArrears, refundsPaid}
+use Rattle.history.specs.History.{History, accounts, Target, find, fate, targetEntry, pointerTo, filter, entriesOf, Reading, sum, total, standingAmount, billedAmount, heldAmount, toArrears, refundsPaid}
 use Rattle.history.specs.Agreement.{keptEntry, Kept, keptLink, keptWalk}
 use Rattle.history.specs.Queries.{statementBy, statementIn, contributionBy, contributionIn}
-use Rattle.history.proofs.Accept.{fits, correctable}
-use Rattle.history.proofs.Bound.{held-small, standing-small, some-small, total-small, taken-small}
+use Rattle.history.proofs.Accept.{FieldsInRange, fits}
+use Rattle.history.proofs.Bound.{large, held-small, standing-small, some-small, total-small, taken-small}
 use Rattle.history.proofs.Tables.{kept-read}
 use Rattle.history.proofs.Search.{Finds, neither, both, finds}
 use Rattle.history.proofs.Agreement.{agreement}
@@ -70,26 +71,29 @@ unfolding totalOf sum
 reads-total g f all same none = refl
 reads-total g f all same (link h {e} w) = omega (arith, reads-total g f all same w, same h e)
 
--- what is read of an entry: what is held, and the standing amount of a bill or of a payment
+-- what counts of each kind: bills at what stands, with late charges, and payments
+counted : (x y : ℕ) (l : Kind) →
+    let stands = cond (sameOf l kind.Bill || sameOf l kind.Payment) x (cond (sameOf l kind.LateCharge) y 0) in
+    (cond (countsWithBills l) stands 0 ≡ cond (sameOf l kind.Bill) x 0 + cond (sameOf l kind.LateCharge) y 0) ×
+    (cond (isPayment l) stands 0 ≡ cond (sameOf l kind.Payment) x 0)
+counted x y = every-kind _ (omega arith)
+
+-- what is read of an entry: what is held, and the standing amount of the kinds that have one
 module _ (all : History) where
   pub held-read : (h : History) (e : Raw) → chains.heldOf (keptEntry all h e) ≡ heldAmount (kindOf (e .kind)) e (fate all e)
   unfolding chains.heldOf entryOf
   held-read h e = ap (λ (n : Particulars). n .held .0) (kept-read (kindOf (e .kind)) e (fate all e) _ _ .0)
 
-  standing-read : (bill : Bool) (h : History) (e : Raw) →
-      standingOf (correctable bill) (keptEntry all h e) ≡ standingAmount (correctable bill) (kindOf (e .kind)) e (fate all e)
+  bill-read : (h : History) (e : Raw) → standingOf countsWithBills (keptEntry all h e) ≡ billedAmount (kindOf (e .kind)) e (fate all e)
   unfolding standingOf entryOf
-  standing-read bill h e = rw (kept-read l e (fate all e) _ _ .0) (go bill (sameOf l kind.Bill) (sameOf l kind.Payment) refl refl)
-    where
-      l : Kind
-      l = kindOf (e .kind)
+  bill-read h e = let l = kindOf (e .kind) in rw (kept-read l e (fate all e) _ _ .0) (counted (fate all e .standing) (e .amount) l .0)
 
-      go : (bill s t : Bool) → sameOf l kind.Bill ≡ s → sameOf l kind.Payment ≡ t → (let u = sameOf l (correctable bill) in
-          cond u (cond (s || t) (fate all e .standing) 0) 0 ≡ cond u (fate all e .standing) 0)
-      go bill true t p q = refl
-      go bill false true p q = refl
-      go true false false p q = rw p
-      go false false false p q = rw q
+  payment-read : (h : History) (e : Raw) → standingOf isPayment (keptEntry all h e) ≡ standingAmount kind.Payment (kindOf (e .kind)) e (fate all e)
+  unfolding standingOf entryOf
+  payment-read h e = let l = kindOf (e .kind) in rw (kept-read l e (fate all e) _ _ .0) (counted (fate all e .standing) (e .amount) l .1)
+
+billed-sum : {x y : ℕ} → x ≤ large → y ≤ amountMost → (l : Kind) → cond (sameOf l kind.Bill) x 0 + cond (sameOf l kind.LateCharge) y 0 ≤ large
+billed-sum p q = every-kind _ (omega arith)
 
 -- STATEMENT
 module _ {b : Book} {h : History} (w : Kept b h) where
@@ -103,23 +107,26 @@ module _ {b : Book} {h : History} (w : Kept b h) where
             (omega (arith, held-small h e, s .amount))) (w .valid),
       )))
 
-  standing-fits : (bill : Bool) (a n : ℕ) →
-      let l = correctable bill in min (totalOf (standingOf l) (take n (entriesIn (keptWalk h h a)))) most ≡ total (standingAmount l) h (take n (entriesOf h a))
-  standing-fits bill a n =
-      let l = correctable bill in
-      rw (reads-total (standingOf l) (standingAmount l) h (standing-read h bill) (reads-taken n (chain-reads h h a)))
-      (min-eq-left (omega (
-        arith,
-        fits (w .valid),
-        taken-small (standingAmount l) h n (entriesOf h a),
-        total-small (standingAmount l) h a (λ e s. some-small (sameOf (kindOf (e .kind)) l) (fate h e .standing) (standing-small (w .valid) e s))
-            (w .valid),
-      )))
+  -- a sum of small numbers along the chain fits
+  taken-fits : (g : Entry → ℕ) (f : Reading) → ((k : History) (e : Raw) → g (keptEntry h k e) ≡ f (kindOf (e .kind)) e (fate h e)) →
+      ((e : Raw) → FieldsInRange e (kindOf (e .kind)) → f (kindOf (e .kind)) e (fate h e) ≤ large) → (a n : ℕ) →
+      min (totalOf g (take n (entriesIn (keptWalk h h a)))) most ≡ total f h (take n (entriesOf h a))
+  taken-fits g f same small a n =
+      rw (reads-total g f h same (reads-taken n (chain-reads h h a)))
+      (min-eq-left (omega (arith, fits (w .valid), taken-small f h n (entriesOf h a), total-small f h a small (w .valid))))
+
+  billed-fits : (a n : ℕ) → min (totalOf (standingOf countsWithBills) (take n (entriesIn (keptWalk h h a)))) most ≡ total billedAmount h (take n (entriesOf h a))
+  billed-fits = taken-fits (standingOf countsWithBills) billedAmount (bill-read h) (λ e s. billed-sum (standing-small (w .valid) e s) (s .amount) (kindOf (e .kind)))
+
+  paid-fits : (a n : ℕ) → min (totalOf (standingOf isPayment) (take n (entriesIn (keptWalk h h a)))) most ≡ total (standingAmount kind.Payment) h (take n (entriesOf h a))
+  paid-fits =
+      taken-fits (standingOf isPayment) (standingAmount kind.Payment) (payment-read h)
+      (λ e s. some-small (sameOf (kindOf (e .kind)) kind.Payment) (fate h e .standing) (standing-small (w .valid) e s))
 
   given-same : (a n : ℕ) → 1 ≤ a → a ≤ accounts → givenOf (accountAt b a) (chainAt b a) n ≡ statementBy 0 h a n
   unfolding givenOf
   given-same a n l m =
-      rw (agreement .chain b h w a l m, w .agrees .account a l m, held-fits a, standing-fits true a n, standing-fits false a n, reads-length (chain-reads h h a)) refl
+      rw (agreement .chain b h w a l m, w .agrees .account a l m, held-fits a, billed-fits a n, paid-fits a n, reads-length (chain-reads h h a)) refl
 
   pub statement-same : (a n : ℕ) → statementOf b a n ≡ statementIn h a n
   unfolding statementOf statementIn decidedOf refuseIf statementReplyOf

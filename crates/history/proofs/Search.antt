@@ -13,6 +13,7 @@ use Rattle.measures.specs.Days.{lastDay}
 use Rattle.entries.specs.Kinds.{kindOf, sameOf, namesOf}
 use Rattle.entries.specs.Ranges.{between}
 use Rattle.entries.specs.Data.{noEntry, entryOf, pointsAt}
+use Rattle.entries.specs.declared.arrivals.Arrival.{Arrival}
 use Rattle.entries.specs.declared.raw.Raw.{Raw}
 use Rattle.entries.specs.declared.kinds.Kind.{Kind}
 use Rattle.entries.specs.declared.kinds.Kind.the-variants as kind
@@ -111,13 +112,13 @@ module _ (all : History) (d a : ℕ) where
   unfolding paidWithin entryOf
   within-same h e =
       rw (kept-read (kindOf (e .kind)) e (fate all e) _ _ .0, window-same (e .day) d)
-      (go (sameOf (kindOf (e .kind)) kind.Bill) (sameOf (kindOf (e .kind)) kind.Payment) (between (e .day) (d + 1 - windowDays) d) (fate all e .standing))
+      (go (sameOf (kindOf (e .kind)) kind.Bill) (sameOf (kindOf (e .kind)) kind.Payment) (between (e .day) (d + 1 - windowDays) d) (fate all e .standing) _)
     where
-      go : (s t u : Bool) (n : ℕ) → cond (t && u) (cents (cond (s || t) n 0)) (cents 0) ≡ cents (cond (t && u) n 0)
-      go true true true n = refl
-      go false true true n = refl
-      go s true false n = refl
-      go s false u n = refl
+      go : (s t u : Bool) (n m : ℕ) → cond (t && u) (cents (cond (s || t) n m)) (cents 0) ≡ cents (cond (t && u) n 0)
+      go true true true n m = refl
+      go false true true n m = refl
+      go s true false n m = refl
+      go s false u n m = refl
 
   paid-over : (h : History) (x : ℕ) → x + total (paidUntil d) all (entriesOf h a) ≤ most →
       paidOver d (cents x) (keptWalk all h a) ≡ cents (x + total (paidUntil d) all (entriesOf h a))
@@ -164,11 +165,11 @@ module _ {b : Book} {h : History} (w : Agrees b h) (v : Valid h) where
       go false = rw (walk-zero (b .entries) entries) neither
 
   -- what is left of the book's table after 1 to 7 is what is left of the history's
-  pub state-same : (r : Raw) → between (r .account) 1 accounts ≡ true → r .day ≤ lastDay → let k = kindOf (r .kind) in
+  pub state-same : (way : Arrival) (r : Raw) → between (r .account) 1 accounts ≡ true → r .day ≤ lastDay → let k = kindOf (r .kind) in
       Same (rows r k (accountAt b (r .account)) (namesOf k) (lookupOf b r))
-      (rowsFrom 8 (refusals h r k (targetEntry (named h r)) (targetFate h (named h r)) (balance h (r .account))))
+      (rowsFrom 8 (refusals way h r k (targetEntry (named h r)) (targetFate h (named h r)) (balance h (r .account))))
   unfolding named
-  state-same r t d =
+  state-same way r t d =
       let i = inside (r .account) 1 accounts t in
       rw (w .account (r .account) (i .0) (i .1)) (go (naming k) refl (find h r) refl (lookup-same r t))
     where
@@ -182,10 +183,10 @@ module _ {b : Book} {h : History} (w : Agrees b h) (v : Valid h) where
       acc = accountIn h (r .account)
 
       go : (n : Bool) → naming k ≡ n → (s : Target) → find h r ≡ s → {x : chains.Sought} → Finds h x (cond n s absent) →
-          Same (rows r k acc n x) (rowsFrom 8 (refusals h r k (targetEntry (cond n s absent)) (targetFate h (cond n s absent)) bal))
-      go false n s q f = own-same h r k bal (newestOf h (r .account)) n
-      go true n absent q neither = missing-same h r k bal acc n
-      go true n (present i e) q (both g) = naming-same h r k bal acc i g e n (in-book v e (hit v r i e q .member)) d
+          Same (rows r k acc n x) (rowsFrom 8 (refusals way h r k (targetEntry (cond n s absent)) (targetFate h (cond n s absent)) bal))
+      go false n s q f = own-same way h r k bal (newestOf h (r .account)) n
+      go true n absent q neither = missing-same way h r k bal acc n
+      go true n (present i e) q (both g) = naming-same way h r k bal acc i g e n (in-book v e (hit v r i e q .member)) d
 
   pub last-same : (r : Raw) → between (r .node) 1 2 ≡ true → lastOf (b .last) (r .node) ≡ lastSerial h (r .node)
   unfolding lastOf

@@ -2,7 +2,7 @@
 use mathlib.Core.Path.{_≡_, refl, sym, ap, _∙_}
 use Prim.Native.Nat.{ℕ, _≤_}
 use native.Mathlib.Omega.{arith}
-use mathlib.Core.Bool.{Bool, true, false, cond, not, _&&_, _||_, true≢false}
+use mathlib.Core.Bool.{Bool, true, false, cond, not, _&&_, _||_, true≢false, and-true, and-false}
 use mathlib.Core.List.{List, [], _∷_, _++_}
 use lib.ListN.{length}
 use lib.Dec.{eqb, leb, ltb}
@@ -12,11 +12,14 @@ use Rattle.measures.specs.Days.{day, lastDay}
 use Rattle.measures.specs.declared.Cents.{Cents}
 use Rattle.calendar.specs.Periods.{yearsOn}
 use Rattle.calendar.proofs.Calendar.{calendar}
+use Rattle.entries.specs.Arrivals.{unknownTo, waitsFor}
 use Rattle.entries.specs.Kinds.{kindOf, namesOf, misnamesOf, sameOf}
 use Rattle.entries.specs.Ranges.{between}
 use Rattle.entries.specs.Refusals.{refusalNumber, refuseIf, decidedOf}
 use Rattle.entries.specs.Refusals as checks
 use Rattle.entries.specs.Data.{metres, entryOf, FromContribution, caseOf, ofContribution, particularsOf}
+use Rattle.entries.specs.declared.arrivals.Arrival.{Arrival}
+use Rattle.entries.specs.declared.arrivals.Arrival.the-variants.{Posted, PostedInRun, Recorded}
 use Rattle.entries.specs.declared.raw.Raw.{Raw}
 use Rattle.entries.specs.declared.kinds.Kind.{Kind}
 use Rattle.entries.specs.declared.kinds.Kind.the-variants as kind
@@ -33,7 +36,7 @@ use Rattle.changes.specs.declared.Decision.the-variants.{Refused, Accepted}
 use Rattle.rules.specs.declared.accounts.Account.{Account}
 use Rattle.book.specs.Chain as chains
 use Rattle.book.specs.Refusals.{entryRows, checkEntryOf, searchedOf, decisionBy}
-use Rattle.history.specs.History.{History, accounts, entries, refundYears, guaranteeYears, dated, datedAfter, namingGuarantee, naming, suits, lastSerial, absent, Fate, fate, guaranteeOpen, targetEntry, targetFate, Balance, Rule, firstBroken, refusals, toArrears, refundsPaid}
+use Rattle.history.specs.History.{History, accounts, entries, refundYears, guaranteeYears, dated, datedAfter, namingGuarantee, naming, suits, lastSerial, absent, Fate, fate, guaranteeOpen, targetEntry, targetFate, Balance, Rule, firstBroken, unknownSo, waitsSo, refusals, toArrears, refundsPaid}
 use Rattle.history.specs.Agreement.{keptAccount, keptData, keptEntry}
 use Rattle.history.proofs.Tests.{tested}
 use Rattle.history.proofs.Accept.{unsuited}
@@ -129,6 +132,22 @@ module _ (d e : ℕ) (from : d ≤ lastDay) (until : e ≤ lastDay) (n : ℕ) wh
       less : (a b : ℕ) → ltb a b ≡ not (leb b a)
       less a b = tested (λ t. ltb a b ≡ not t) (leb b a) (λ p. le-ltb a b (leb-true b a p)) (λ p. lt-ltb a b (leb-false b a p))
 
+-- how an entry comes in stops the same kinds
+unknown-same : (w : Arrival) (k : Kind) → unknownTo w k ≡ unknownSo w k
+unknown-same Posted k = rw (and-true (sameOf k kind.LateCharge)) refl
+unknown-same PostedInRun k = rw (and-true (sameOf k kind.LateCharge)) refl
+unknown-same Recorded k = go (sameOf k kind.Unknown) (sameOf k kind.LateCharge)
+  where
+    go : (s t : Bool) → (s || (t && false)) ≡ s
+    go true t = refl
+    go false true = refl
+    go false false = refl
+
+waits-same : (w : Arrival) (k : Kind) → waitsFor w k ≡ waitsSo w k
+waits-same Posted k = and-false (sameOf k kind.Correction)
+waits-same PostedInRun k = and-true (sameOf k kind.Correction)
+waits-same Recorded k = and-false (sameOf k kind.Correction)
+
 -- what the rules read of an entry of a kind, as the history has it
 abbrev pub seenOf : Kind → Raw → Fate → Particulars
 seenOf l e f =
@@ -143,7 +162,7 @@ seenOf l e f =
       held = cents (cond contribution (f .held) 0);
       added = cond contribution (f .added) 0;
       closed = (contribution || guarantee) && f .closed;
-      standing = cents (cond correctable (f .standing) 0);
+      standing = cents (cond correctable (f .standing) (cond (sameOf l kind.LateCharge) (e .amount) 0));
       corrected = correctable && f .corrected;
       «guarantee_held» = cents (cond guarantee (f .held) 0);
       reduced = day (cond guarantee (f .reduced) 0);
@@ -168,6 +187,7 @@ kept-read kind.Correction e f s p = (refl, λ A g x. refl)
 kept-read kind.Guarantee e f s p = (refl, λ A g x. refl)
 kept-read kind.Reduction e f s p = (refl, λ A g x. refl)
 kept-read kind.Retention e f s p = (refl, λ A g x. refl)
+kept-read kind.LateCharge e f s p = (refl, λ A g x. refl)
 
 -- what is left of the table after 1 to 7, for the entry that r names or none, and what an entry does that passes it
 abbrev pub rows : Raw → Kind → Account → Bool → chains.Sought → List checks.Row
@@ -188,10 +208,10 @@ parted check.Passed [] ys o = refl
 parted (check.Refused n) [] ys o = rw (refused-first n ys) refl
 parted c (x ∷ xs) ys o = parted (refuseIf c (x .broken) (x .refusal)) xs ys o
 
-pub one-table : (r : Raw) (count last : ℕ) (acc : Account) (s : chains.Sought) (paid : Cents) → let k = kindOf (r .kind) in
-    decisionBy r count last acc s paid ≡ decidedOf (checks.checkRows check.Passed (entryRows r k count last ++ rows r k acc (namesOf k) s)) Refused (effect r k acc paid (namesOf k) s)
+pub one-table : (r : Raw) (w : Arrival) (count last : ℕ) (acc : Account) (s : chains.Sought) (paid : Cents) → let k = kindOf (r .kind) in
+    decisionBy r w count last acc s paid ≡ decidedOf (checks.checkRows check.Passed (entryRows r k w count last ++ rows r k acc (namesOf k) s)) Refused (effect r k acc paid (namesOf k) s)
 unfolding decisionBy checkEntryOf searchedOf ownDecisionOf namingDecisionOf checkOwnOf checkNamingOf refuseIf decidedOf
-one-table r count last acc s paid = rw (go (namesOf k) s) (parted check.Passed (entryRows r k count last) (rows r k acc (namesOf k) s) (effect r k acc paid (namesOf k) s))
+one-table r w count last acc s paid = rw (go (namesOf k) s) (parted check.Passed (entryRows r k w count last) (rows r k acc (namesOf k) s) (effect r k acc paid (namesOf k) s))
   where
     k : Kind
     k = kindOf (r .kind)
@@ -207,10 +227,10 @@ abbrev pub rowsFrom : ℕ → List Rule → List Rule
 rowsFrom n [] = []
 rowsFrom n (x ∷ xs) = cond (eqb (x .number) n) (x ∷ xs) (rowsFrom n xs)
 
-module _ (h : History) (r : Raw) (k : Kind) (b : Balance) where
+module _ (w : Arrival) (h : History) (r : Raw) (k : Kind) (b : Balance) where
   -- of an entry that names nothing
   pub own-same : (newest : ℕ) → naming k ≡ false →
-      Same (rows r k (keptAccount b (guaranteeOpen h (r .account)) newest) false chains.missing) (rowsFrom 8 (refusals h r k (targetEntry absent) (targetFate h absent) b))
+      Same (rows r k (keptAccount b (guaranteeOpen h (r .account)) newest) false chains.missing) (rowsFrom 8 (refusals w h r k (targetEntry absent) (targetFate h absent) b))
   own-same newest n =
       let none : (l : Kind) → naming l ≡ true → sameOf k l ≡ false = λ l m. naming-not k l false m n in
       let no-added = none kind.AddedCustomer refl in (
@@ -240,14 +260,14 @@ module _ (h : History) (r : Raw) (k : Kind) (b : Balance) where
       )
 
   -- of an entry that names one that is not on the chain
-  pub missing-same : (acc : Account) → naming k ≡ true → Same (rows r k acc true chains.missing) (rowsFrom 8 (refusals h r k (targetEntry absent) (targetFate h absent) b))
+  pub missing-same : (acc : Account) → naming k ≡ true → Same (rows r k acc true chains.missing) (rowsFrom 8 (refusals w h r k (targetEntry absent) (targetFate h absent) b))
   missing-same acc n =
       let stops : true ≡ (naming k && not (suits k (kindOf 0))) = rw (n, unsuited k) in
       (stops, λ t. absurd (true≢false (stops ∙ t)))
 
   -- of an entry that names x, which the book keeps
   pub naming-same : (acc : Account) (i : ℕ) (g : History) (x : Raw) → naming k ≡ true → x .day ≤ lastDay → r .day ≤ lastDay →
-      Same (rows r k acc true (chains.found i (keptEntry h g x))) (rowsFrom 8 (refusals h r k x (fate h x) b))
+      Same (rows r k acc true (chains.found i (keptEntry h g x))) (rowsFrom 8 (refusals w h r k x (fate h x) b))
   unfolding entryOf
   naming-same acc i g x n from until =
       let l = kindOf (x .kind) in
@@ -291,13 +311,13 @@ module _ (h : History) (r : Raw) (k : Kind) (b : Balance) where
       )
 
 -- the two tables as a whole
-module _ (h : History) (r : Raw) (k : Kind) (count last : ℕ) (rest : List checks.Row) (x : Raw) (f : Fate) (b : Balance) (counted : count ≡ length h)
+module _ (w : Arrival) (h : History) (r : Raw) (k : Kind) (count last : ℕ) (rest : List checks.Row) (x : Raw) (f : Fate) (b : Balance) (counted : count ≡ length h)
     (lasts : between (r .node) 1 2 ≡ true → last ≡ lastSerial h (r .node))
-    (state : between (r .account) 1 accounts ≡ true → r .day ≤ lastDay → Same rest (rowsFrom 8 (refusals h r k x f b))) where
-  pub check-same : checkNumber (checks.checkRows check.Passed (entryRows r k count last ++ rest)) ≡ firstBroken (refusals h r k x f b)
+    (state : between (r .account) 1 accounts ≡ true → r .day ≤ lastDay → Same rest (rowsFrom 8 (refusals w h r k x f b))) where
+  pub check-same : checkNumber (checks.checkRows check.Passed (entryRows r k w count last ++ rest)) ≡ firstBroken (refusals w h r k x f b)
   check-same =
-      first-same (entryRows r k count last ++ rest) (refusals h r k x f b) (
-        refl,
+      first-same (entryRows r k w count last ++ rest) (refusals w h r k x f b) (
+        unknown-same w k,
         λ t. (
           refl,
           λ node. (
@@ -308,8 +328,11 @@ module _ (h : History) (r : Raw) (k : Kind) (count last : ℕ) (rest : List chec
                 refl,
                 λ t. (
                   ap (λ n. leb (r .serial) n) (lasts (not-false _ node)),
-                  λ t.
-                      (ap (λ n. leb entries n) counted, λ t. state (not-false _ account) (ltb-false _ _ day)),
+                  λ t. (
+                    waits-same w k,
+                    λ t.
+                        (ap (λ n. leb entries n) counted, λ t. state (not-false _ account) (ltb-false _ _ day)),
+                  ),
                 ),
               ),
             ),

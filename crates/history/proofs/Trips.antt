@@ -8,6 +8,7 @@ use lib.ListN.{length, drop, length-append, length-drop, take-append-drop}
 use lib.Seq.{drop-at}
 use lib.Dec.{eqb}
 use borrow.Author.Tests.{eqb-true, eqb-false}
+use Rattle.entries.specs.declared.arrivals.Arrival.the-variants.{Recorded}
 use Rattle.entries.specs.declared.raw.Raw.{Raw}
 use Rattle.rules.specs.declared.accounts.Account.{Account}
 use Rattle.codec.specs.Bytes.{Bytes}
@@ -19,8 +20,9 @@ use Rattle.codec.proofs.Layouts.{fit-unpack}
 use Rattle.codec.proofs.Records.{length-encodeAll, length-decodeAll, decode-encode-all, encode-decode-all, in-range-append}
 use Rattle.codec.proofs.Headers.{length-header, count-header, header-passes, checked, header-again}
 use Rattle.book.specs.Fresh.{freshBook}
-use Rattle.book.specs.Posting.{accountAt, postOf, postsOf}
+use Rattle.book.specs.Posting.{accountAt, recordOf}
 use Rattle.book.specs.declared.Book.{Book}
+use Rattle.runs.specs.Runs.{withoutRun}
 use Rattle.saves.specs.Saves.{imageOf}
 use Rattle.replays.specs.Loaded.{LoadedReply, rawIn, acceptedLoad, refusedLoad, recordRefusal}
 use Rattle.loads.specs.Loads.{recordsIn, loadAll, loadOf}
@@ -28,43 +30,51 @@ use Rattle.loads.proofs.Loads.{load-begins, load-checked, stop-none, none-stops
 use Rattle.history.specs.History.{History, entries, judge, offer}
 use Rattle.history.specs.Laws.{Valid, empty, joins}
 use Rattle.history.specs.Images.{newestOf, recordsBy, imageIn, bytesIn, Typed, AllTyped}
-use Rattle.history.specs.Agreement.{Kept}
-use Rattle.history.specs.Trips.{historyIn, Trips}
+use Rattle.history.specs.Agreement.{Kept, over, KeptState}
+use Rattle.history.specs.Calls.{stateFrom}
+use Rattle.history.specs.Trips.{historyIn, recordedOf, Trips}
 use Rattle.history.proofs.Tests.{tested}
 use Rattle.history.proofs.Accept.{accepts, fits}
 use Rattle.history.proofs.Agreement.{agreement}
 use Rattle.history.proofs.Determined.{determined}
 use Rattle.history.proofs.Images.{image-kept}
 use Rattle.history.proofs.Carry.{number-same}
-use Rattle.history.proofs.Claim.{calls-same}
+use Rattle.history.proofs.Runs.{idle-run, idle-over, idle-entered}
+use Rattle.history.proofs.Claim.{calls-same, fresh-kept}
 
 -- ONE RECORD
 
 module _ {b : Book} {h : History} (w : Kept b h) (r : Raw) (j : judge h r ≡ 0) where
-  kept-joined : Kept (postOf b r .book) (r ∷ h)
+  kept-joined : Kept (recordOf b r .book) (r ∷ h)
   unfolding offer
-  kept-joined = rw j at (agreement .posted b h w r)
+  kept-joined = rw j at (agreement .entered Recorded b h w r)
 
   newest-kept : accountAt b (r .account) .newest ≡ newestOf h (r .account)
   newest-kept = let p = accepts h r j in ap (λ (x : Account). x .newest) (w .agrees .account (r .account) (p .account-low) (p .account-high))
 
 -- THE IMAGE OF A HISTORY LOADS
 
--- the book that keeps a history, by its records
+-- the book that keeps a history, by its records; it has no run
 pub record Loads (h : History) : Type 0 where
   pub book : Book
   pub kept : Kept book h
+  pub idle : withoutRun book ≡ book
   pub again : loadAll (recordsBy h) freshBook 1 ≡ acceptedLoad book
+
+fresh-idle : withoutRun freshBook ≡ freshBook
+unfolding withoutRun freshBook
+fresh-idle = refl
 
 pub loads : {h : History} → Valid h → Loads h
 unfolding recordsBy loadAll
-loads empty = record { book = freshBook; kept = agreement .fresh; again = refl }
+loads empty = record { book = freshBook; kept = agreement .fresh; idle = fresh-idle; again = refl }
 loads (joins {r} {h} v j) =
     let p = loads v in
     record {
-      book = postOf (p .book) r .book;
+      book = recordOf (p .book) r .book;
       kept = kept-joined (p .kept) r j;
-      again = load-more (recordsBy h) _ freshBook (p .book) 1 (p .again) (rw (newest-kept (p .kept) r j) at (none-stops (p .book) r (number-same (p .kept) r ∙ j)));
+      idle = idle-entered Recorded (p .book) r (p .idle);
+      again = load-more (recordsBy h) _ freshBook (p .book) 1 (p .again) (rw (newest-kept (p .kept) r j) at (none-stops (p .book) r (number-same Recorded (p .kept) r ∙ j)));
     }
 
 length-records : (h : History) → length (recordsBy h) ≡ length h
@@ -102,41 +112,48 @@ image-loads {h} v t =
     let all : decodeAll (length h) rest ≡ recordsBy h = rw (length-records h) at (decode-encode-all (recordsBy h) (in-range h t n)) in
     load-begins (headerOf (length h) ++ rest) passes ∙ rw (count, body, all) (loads v .again)
 
--- as the book that keeps it
-pub saved : (b : Book) (h : History) → Kept b h → AllTyped h → loadOf (imageOf b) ≡ acceptedLoad b
+-- as the book that keeps it, without its run
+pub saved : (b : Book) (h : History) → Kept b h → AllTyped h → loadOf (imageOf b) ≡ acceptedLoad (withoutRun b)
 saved b h w t =
-    ap loadOf (image-kept w) ∙ image-loads (w .valid) t ∙ ap acceptedLoad (determined (loads (w .valid) .book) b h (loads (w .valid) .kept) w)
+    let l = loads (w .valid) in ap loadOf (image-kept w) ∙ image-loads (w .valid) t ∙ ap acceptedLoad (sym (l .idle) ∙ determined (l .book) b h (l .kept) w)
 
 -- AN IMAGE THAT LOADS IS ITS HISTORY'S
 
 -- what records that load make of a book and its history
 record Extends (b : Book) (h : History) (rs : List Record) (i : ℕ) : Type 0 where
-  whole : loadAll rs b i ≡ acceptedLoad (postsOf b (map rawIn rs))
-  kept : Kept (postsOf b (map rawIn rs)) (reverseAux (map rawIn rs) h)
+  whole : loadAll rs b i ≡ acceptedLoad (recordedOf b (map rawIn rs))
+  kept : Kept (recordedOf b (map rawIn rs)) (reverseAux (map rawIn rs) h)
+  idle : withoutRun (recordedOf b (map rawIn rs)) ≡ recordedOf b (map rawIn rs)
   records : recordsBy (reverseAux (map rawIn rs) h) ≡ recordsBy h ++ rs
 
-extend : (rs : List Record) (b : Book) (h : History) (i : ℕ) → Kept b h → loadAll rs b i .refusal ≡ 0 → Extends b h rs i
-unfolding loadAll postsOf recordsBy
-extend [] b h i w e = record { whole = refl; kept = w; records = sym (append-nil (recordsBy h)) }
-extend (r ∷ rs) b h i w e =
-    tested (λ t. cond t (loadAll rs (postOf b (r .raw) .book) (i + 1)) (refusedLoad (recordRefusal b r) i) .refusal ≡ 0 → Extends b h (r ∷ rs) i) (eqb (recordRefusal b r) 0)
+extend : (rs : List Record) (b : Book) (h : History) (i : ℕ) → Kept b h → withoutRun b ≡ b → loadAll rs b i .refusal ≡ 0 → Extends b h rs i
+unfolding loadAll recordedOf recordsBy
+extend [] b h i w idle e = record { whole = refl; kept = w; idle = idle; records = sym (append-nil (recordsBy h)) }
+extend (r ∷ rs) b h i w idle e =
+    tested (λ t. cond t (loadAll rs (recordOf b (r .raw) .book) (i + 1)) (refusedLoad (recordRefusal b r) i) .refusal ≡ 0 → Extends b h (r ∷ rs) i) (eqb (recordRefusal b r) 0)
     (λ p z.
     let none = stop-none b r (eqb-true (recordRefusal b r) 0 p) in
-    let j : judge h (rawIn r) ≡ 0 = sym (number-same w (rawIn r)) ∙ none .0 in
+    let j : judge h (rawIn r) ≡ 0 = sym (number-same Recorded w (rawIn r)) ∙ none .0 in
     let next : r .next ≡ newestOf h (rawIn r .account) = none .1 ∙ newest-kept w (rawIn r) j in
-    let rest = extend rs (postOf b (r .raw) .book) (rawIn r ∷ h) (i + 1) (kept-joined w (rawIn r) j) z in
-    record { whole = rw p (rest .whole); kept = rest .kept; records = rest .records ∙ rw (← next) (append-assoc (recordsBy h) (r ∷ []) rs) })
+    let rest = extend rs (recordOf b (r .raw) .book) (rawIn r ∷ h) (i + 1) (kept-joined w (rawIn r) j) (idle-entered Recorded b (r .raw) idle) z in
+    record { whole = rw p (rest .whole); kept = rest .kept; idle = rest .idle; records = rest .records ∙ rw (← next) (append-assoc (recordsBy h) (r ∷ []) rs) })
     (λ p z. absurd (eqb-false _ 0 p z)) e
 
 loaded : (l : List ℕ) → loadOf l .refusal ≡ 0 → Extends freshBook [] (recordsIn l) 1
 loaded l e =
-    extend (recordsIn l) freshBook [] 1 (agreement .fresh) (ap (λ (q : LoadedReply). q .refusal) (sym (load-begins l (load-checked l e))) ∙ e)
+    extend (recordsIn l) freshBook [] 1 (agreement .fresh) fresh-idle (ap (λ (q : LoadedReply). q .refusal) (sym (load-begins l (load-checked l e))) ∙ e)
 
-loaded-posted : (l : List ℕ) → loadOf l .refusal ≡ 0 → loadOf l ≡ acceptedLoad (postsOf freshBook (map rawIn (recordsIn l)))
-loaded-posted l e = load-begins l (load-checked l e) ∙ loaded l e .whole
+loaded-recorded : (l : List ℕ) → loadOf l .refusal ≡ 0 → loadOf l ≡ acceptedLoad (recordedOf freshBook (map rawIn (recordsIn l)))
+loaded-recorded l e = load-begins l (load-checked l e) ∙ loaded l e .whole
 
 pub loaded-kept : (l : List ℕ) → loadOf l .refusal ≡ 0 → Kept (loadOf l .book) (historyIn l)
-loaded-kept l e = rw (loaded-posted l e) (loaded l e .kept)
+loaded-kept l e = rw (loaded-recorded l e) (loaded l e .kept)
+
+loaded-idle : (l : List ℕ) → loadOf l .refusal ≡ 0 → withoutRun (loadOf l .book) ≡ loadOf l .book
+loaded-idle l e = rw (loaded-recorded l e) (loaded l e .idle)
+
+loaded-state : (l : List ℕ) → loadOf l .refusal ≡ 0 → KeptState (loadOf l .book) (stateFrom (historyIn l))
+loaded-state l e = let i = idle-run (loadOf l .book) (loaded-idle l e) in record { history = loaded-kept l e; run = over refl (i .0) (i .1) }
 
 pub image-again : (l : List ℕ) → Bytes l → loadOf l .refusal ≡ 0 → imageIn (historyIn l) ≡ l
 unfolding imageIn recordsBy
@@ -170,9 +187,11 @@ pub trips : Trips
 trips =
     record {
       image = λ b h w. image-kept w;
-      saved-loads = λ cs t. saved _ _ (calls-same (agreement .fresh) cs .0) t;
+      saved-loads = λ cs t. saved _ _ (calls-same fresh-kept cs .0 .history) t;
+      whole = λ cs o. idle-over (calls-same fresh-kept cs .0 .run) o;
       loaded-saves = λ l h e. image-kept (loaded-kept l e) ∙ image-again l h e;
-      loaded-posted = loaded-posted;
+      loaded-recorded = loaded-recorded;
+      loaded-idle = loaded-idle;
       loaded-kept = loaded-kept;
-      loaded-on = λ l e cs t. saved _ _ (calls-same (loaded-kept l e) cs .0) t;
+      loaded-on = λ l e cs t. saved _ _ (calls-same (loaded-state l e) cs .0 .history) t;
     }

@@ -16,10 +16,11 @@ use Rattle.pages.specs.Pages.{pageOf}
 use Rattle.saves.specs.Saves.{saveOf, savedIn}
 use Rattle.history.specs.History.{accounts, after, answersAlong, balance, entriesOf, total, heldOf, heldAmount}
 use Rattle.history.specs.Laws.{Lawful, Bounded}
-use Rattle.history.specs.Agreement.{Kept}
+use Rattle.history.specs.Agreement.{Kept, RunKept}
 use Rattle.carry.specs.Carry.{carryRefusalOf, carryBookOf, carryResultsOf}
+use Rattle.runs.specs.Runs.{openRunOf, stepOf, closeRunOf}
 use Rattle.history.specs.Queries.{Query, statement, contribution, page, save, QueryAnswer, stated, given, paged, saved}
-use Rattle.history.specs.Calls.{Call, posting, carryOver, query, CallAnswer, posted, carried, queried, answersIn, historyOf}
+use Rattle.history.specs.Calls.{Call, posting, carryOver, opening, step, close, query, CallAnswer, posted, carried, ran, queried, answersIn, stateOf, historyOf}
 
 -- the queries on a book
 unfoldable pub queryOf : Book → Query → QueryAnswer
@@ -32,6 +33,9 @@ queryOf b (save buffer) = saved (saveOf b buffer .refusal) (saveOf b buffer .byt
 unfoldable pub callOf : Book → Call → Book × CallAnswer
 callOf b (posting r) = (postOf b r .book, posted (postOf b r .reply))
 callOf b (carryOver rs results) = (carryBookOf b rs results, carried (carryRefusalOf rs results) (carryResultsOf b rs results))
+callOf b (opening node day rate) = let o = openRunOf b node day rate in (o .book, ran (o .refusal))
+callOf b step = (stepOf b .book, posted (stepOf b .reply))
+callOf b close = (closeRunOf b .book, ran (closeRunOf b .refusal))
 callOf b (query q) = (b, queried (queryOf b q))
 
 abbrev pub bookAfter : Book → List Call → Book
@@ -66,6 +70,8 @@ pub record Claim (cs : List Call) : Type 0 where
       totalOf guaranteeHeldOf (chainAt (bookOf cs) a) ≡ total (heldOf kind.Guarantee) (historyOf cs) (entriesOf (historyOf cs) a)
   -- it keeps the history's entries, chains and last serials too
   pub kept : Kept (bookOf cs) (historyOf cs)
+  -- and its run: the same node, day and rate, and the same accounts left with the same noted arrears
+  pub run : RunKept (bookOf cs .run) (bookOf cs .noted) (stateOf cs .run)
   -- the claims of the history: sums, contributions, refunds with their days, guarantees, corrections
   pub lawful : Lawful (historyOf cs)
   -- bounds within which no sum saturates

@@ -3,6 +3,7 @@
 use Prim.Native.Nat.{ℕ, _+_, min}
 use mathlib.Core.Path.{_≡_}
 use mathlib.Core.List.{List, [], _∷_, map}
+use Rattle.entries.specs.declared.arrivals.Arrival.the-variants.{Posted}
 use Rattle.entries.specs.declared.raw.Raw.{Raw}
 use Rattle.rules.specs.declared.answers.PostingReply.{PostingReply}
 use Rattle.history.specs.History.{offer, repliedOf, answersAlong}
@@ -82,7 +83,7 @@ numbered n (f ∷ fs) = f .entry n ∷ numbered (n + 1) fs
 abbrev pub replies : List Figure → List Reply
 replies fs =
     map (λ (x : PostingReply). (x .refusal, x .settled, x .«paid_out», x .retained))
-    (answersAlong (λ h r. (offer h r, repliedOf h r)) [] (numbered 1 fs))
+    (answersAlong (λ h r. (offer Posted h r, repliedOf Posted h r)) [] (numbered 1 fs))
 
 -- a tenth of the payments from d - 364 to d; what is held; nothing
 abbrev pub tenths : List Figure
@@ -186,7 +187,7 @@ naming =
     (reduction 400 0 gives refused 5) ∷
     (guarantee 0 0 gives refused 5) ∷
     (entry 1 9 0 100 1 0 0 gives refused 5) ∷
-    (entry 1 12 0 0 0 0 0 gives refused 1) ∷
+    (entry 1 13 0 0 0 0 0 gives refused 1) ∷
     []
 
 -- five calendar years, on the day before their end and on it

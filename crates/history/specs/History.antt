@@ -8,6 +8,8 @@ use lib.Dec.{eqb, leb, ltb}
 use Rattle.calendar.specs.Dates.{dateOf, yyyymmdd}
 use Rattle.entries.specs.Kinds.{kindOf, sameOf}
 use Rattle.entries.specs.Ranges.{between, inRangeOf}
+use Rattle.entries.specs.declared.arrivals.Arrival.{Arrival}
+use Rattle.entries.specs.declared.arrivals.Arrival.the-variants.{Posted, PostedInRun, Recorded}
 use Rattle.entries.specs.declared.raw.Raw.{Raw}
 use Rattle.entries.specs.declared.kinds.Kind.{Kind}
 use Rattle.entries.specs.declared.kinds.Kind.the-variants as kind
@@ -248,6 +250,7 @@ moveOf kind.Correction l r b e paid f =
 moveOf kind.Guarantee l r b e paid f = stays
 moveOf kind.Reduction l r b e paid f = refunds (givenBack (f .held) paid)
 moveOf kind.Retention l r b e paid f = retains (f .held)
+moveOf kind.LateCharge l r b e paid f = charges (r .amount)
 
 -- The account's amounts afterwards. `restates x y` charges y - x and credits x - y, what is left over going to credit; at least one of
 -- the two is 0, and moves nothing.
@@ -304,16 +307,28 @@ abbrev pub firstBroken : List Rule → ℕ
 firstBroken [] = 0
 firstBroken (x ∷ xs) = cond (x .broken) (x .number) (firstBroken xs)
 
--- e and f are the entry that r names and its fate, b is the balance of r's account
-abbrev pub refusals : History → Raw → Kind → Raw → Fate → Balance → List Rule
-refusals h r k e f b =
+-- a late charge is recorded, and not posted or carried over; a correction is not posted during a run
+abbrev pub unknownSo : Arrival → Kind → Bool
+unknownSo Posted k = sameOf k kind.Unknown || sameOf k kind.LateCharge
+unknownSo PostedInRun k = sameOf k kind.Unknown || sameOf k kind.LateCharge
+unknownSo Recorded k = sameOf k kind.Unknown
+
+abbrev pub waitsSo : Arrival → Kind → Bool
+waitsSo Posted k = false
+waitsSo PostedInRun k = sameOf k kind.Correction
+waitsSo Recorded k = false
+
+-- of an entry r that comes in by w; e and f are the entry that r names and its fate, b is the balance of r's account
+abbrev pub refusals : Arrival → History → Raw → Kind → Raw → Fate → Balance → List Rule
+refusals w h r k e f b =
     let l = kindOf (e .kind) in
-    (sameOf k kind.Unknown ⇒ 1) ∷
+    (unknownSo w k ⇒ 1) ∷
     (not (between (r .node) 1 2) ⇒ 2) ∷
     (not (between (r .account) 1 accounts) ⇒ 3) ∷
     (ltb lastDay (r .day) ⇒ 4) ∷
     (not (inRangeOf r k) ⇒ 5) ∷
     (leb (r .serial) (lastSerial h (r .node)) ⇒ 6) ∷
+    (waitsSo w k ⇒ 27) ∷
     (leb entries (length h) ⇒ 7) ∷
     (naming k && not (suits k l) ⇒ 8) ∷
     (sameOf k kind.Deposit && ltb 0 (b .deposit) || sameOf k kind.DepositReturn && eqb (b .deposit) 0 ⇒ 9) ∷
@@ -328,20 +343,24 @@ refusals h r k e f b =
     (sameOf k kind.AddedCustomer && ltb (e .a) (r .a) ⇒ 15) ∷
     ((sameOf l kind.Bill || sameOf l kind.Payment) && f .corrected ⇒ 16) ∷ []
 
--- the refusal of an offered entry, read against the history so far; 0 where it joins
-unfoldable pub judge : History → Raw → ℕ
-judge h r = firstBroken (refusals h r (kindOf (r .kind)) (targetEntry (named h r)) (targetFate h (named h r)) (balance h (r .account)))
+-- the refusal of an entry that comes in by w, read against the history so far; 0 where it joins
+unfoldable pub judgeBy : Arrival → History → Raw → ℕ
+judgeBy w h r = firstBroken (refusals w h r (kindOf (r .kind)) (targetEntry (named h r)) (targetFate h (named h r)) (balance h (r .account)))
+
+-- of one that is recorded, as an image's record or by a run's step: an entry that joins in any way passes this one too
+abbrev pub judge : History → Raw → ℕ
+judge h r = judgeBy Recorded h r
 
 -- an entry that a refusal stops adds nothing; every other joins
 abbrev pub joined : ℕ → Raw → History → History
 joined zero r h = r ∷ h
 joined (suc n) r h = h
 
-unfoldable pub offer : History → Raw → History
-offer h r = joined (judge h r) r h
+unfoldable pub offer : Arrival → History → Raw → History
+offer w h r = joined (judgeBy w h r) r h
 
-abbrev pub offers : History → List Raw → History
-offers h rs = foldl offer h rs
+abbrev pub offers : Arrival → History → List Raw → History
+offers w h rs = foldl (offer w) h rs
 
 -- where `step` gives the next state and an answer: the state after a list, and what each of it is answered at its point
 abbrev pub after : {S A B : Type 0} → (S → A → S × B) → S → List A → S
@@ -356,12 +375,12 @@ abbrev pub repliedBy : ℕ → ℕ → Amounts → PostingReply
 repliedBy zero number x = postingReply 0 number (x .settled) (x .paidOut) (x .retained) (x .interest)
 repliedBy (suc n) number x = postingReply (suc n) 0 0 0 0 0
 
-unfoldable pub repliedOf : History → Raw → PostingReply
-repliedOf h r = repliedBy (judge h r) (length h + 1) (amounts h r)
+unfoldable pub repliedOf : Arrival → History → Raw → PostingReply
+repliedOf w h r = repliedBy (judgeBy w h r) (length h + 1) (amounts h r)
 
 -- in a carry-over each entry is offered in turn; its refusal number, or 0, goes to the same place of the result list
-abbrev pub verdicts : History → List Raw → List ℕ
-verdicts h rs = answersAlong (λ h r. (offer h r, judge h r)) h rs
+abbrev pub verdicts : Arrival → History → List Raw → List ℕ
+verdicts w h rs = answersAlong (λ h r. (offer w h r, judgeBy w h r)) h rs
 
 -- refusal 22: the result list is shorter than the entries; none is offered, and the list is unchanged
 abbrev pub tooShort : List Raw → List ℕ → Bool
@@ -370,20 +389,24 @@ tooShort rs results = ltb (length results) (length rs)
 abbrev pub resultsRefusal : List Raw → List ℕ → ℕ
 resultsRefusal rs results = cond (tooShort rs results) 22 0
 
-abbrev pub carryOffers : History → List Raw → List ℕ → History
-carryOffers h rs results = cond (tooShort rs results) h (offers h rs)
+abbrev pub carryOffers : Arrival → History → List Raw → List ℕ → History
+carryOffers w h rs results = cond (tooShort rs results) h (offers w h rs)
 
 -- the result list after it; further places are unchanged
-abbrev pub carryVerdicts : History → List Raw → List ℕ → List ℕ
-carryVerdicts h rs results = cond (tooShort rs results) results (verdicts h rs ++ drop (length rs) results)
+abbrev pub carryVerdicts : Arrival → History → List Raw → List ℕ → List ℕ
+carryVerdicts w h rs results = cond (tooShort rs results) results (verdicts w h rs ++ drop (length rs) results)
 
--- contributions, deposits and guarantees are summed by their amounts, bills and payments at their standing amounts, contributions and
--- guarantees by what is held
+-- contributions, deposits, guarantees and late charges are summed by their amounts, bills and payments at their standing amounts,
+-- contributions and guarantees by what is held
 abbrev pub amountOf : Kind → Reading
 amountOf l k e f = cond (sameOf k l) (e .amount) 0
 
 abbrev pub standingAmount : Kind → Reading
 standingAmount l k e f = cond (sameOf k l) (f .standing) 0
+
+-- late charges count with bills
+abbrev pub billedAmount : Reading
+billedAmount k e f = standingAmount kind.Bill k e f + amountOf kind.LateCharge k e f
 
 abbrev pub heldOf : Kind → Reading
 heldOf l k e f = cond (sameOf k l) (f .held) 0

@@ -5,6 +5,7 @@ use mathlib.Core.Bool.{cond}
 use mathlib.Core.List.{List, [], _∷_, _++_}
 use lib.ListN.{length, take, replicate}
 use lib.Dec.{eqb}
+use Rattle.entries.specs.declared.arrivals.Arrival.the-variants.{Posted}
 use Rattle.codec.specs.Bytes.{Bytes}
 use Rattle.codec.specs.Headers.{mark}
 use Rattle.replays.specs.Loaded.{LoadedReply}
@@ -12,13 +13,13 @@ use Rattle.loads.specs.Loads.{loadOf}
 use Rattle.entries.specs.Order.{firstRefusal}
 use Rattle.image_read.specs.Checks.{checkGiven}
 use Rattle.image_post.specs.Postings.{PostingExit, postingGiven, refusedPosting, readEntry, entryRefusal, postImage}
-use Rattle.image_carry.specs.Carries.{CarryExit, acceptedCarry, refusedCarry, readRun, runRefusal, carryImage}
+use Rattle.image_carry.specs.Carries.{CarryExit, acceptedCarry, refusedCarry, readEntries, entriesRefusal, carryImage}
 use Rattle.image_read.specs.Reads.{statementGiven, statementImage, contributionGiven, contributionImage}
 use Rattle.image_page.specs.Pages.{PageImageExit, pageImageExit, pageImage}
 use Rattle.image_read.specs.declared.checks.CheckGiven.{CheckGiven}
 use Rattle.image_read.specs.declared.reads.StatementGiven.{StatementGiven}
 use Rattle.image_read.specs.declared.reads.ContributionGiven.{ContributionGiven}
-use Rattle.history.specs.History.{History, after, answersAlong, judge, offer, offers, repliedOf, resultsRefusal, carryVerdicts}
+use Rattle.history.specs.History.{History, after, answersAlong, judgeBy, offer, offers, repliedOf, resultsRefusal, carryVerdicts}
 use Rattle.history.specs.Laws.{Lawful, Bounded}
 use Rattle.history.specs.Queries.{statementIn, contributionIn, pageIn}
 use Rattle.history.specs.Images.{imageIn, bytesIn, roomIn, savedBy}
@@ -42,7 +43,7 @@ pub data HostQueryAnswer : Type 0 where
 -- what the exported calls are given beside the image
 pub data HostCall : Type 0 where
   posting : List ℕ → List ℕ → HostCall  -- the entry, and the output as it is lent
-  carryOver : List ℕ → List ℕ → List ℕ → HostCall  -- the run, and the result list and the output as they are lent
+  carryOver : List ℕ → List ℕ → List ℕ → HostCall  -- the entries, and the result list and the output as they are lent
   query : HostQuery → HostCall
 
 -- what they give, with the result list and the output at the end
@@ -66,38 +67,38 @@ wrote l refusal bytes output = cond (eqb refusal 0) (take bytes output) l
 unfoldable pub hostOf : List ℕ → HostCall → List ℕ × HostAnswer
 hostOf l (posting entry output) =
     let o = postImage (loadOf l) entry output in (wrote l (o .given .refusal) (o .given .bytes) (o .output), posted o)
-hostOf l (carryOver run results output) =
-    let o = carryImage (loadOf l) run results output in (wrote l (o .given .refusal) (o .given .bytes) (o .output), carried o)
+hostOf l (carryOver entries results output) =
+    let o = carryImage (loadOf l) entries results output in (wrote l (o .given .refusal) (o .given .bytes) (o .output), carried o)
 hostOf l (query q) = (l, queried (hostQueryOf (loadOf l) q))
 
 -- CONTRIBUTION_BOOK_FRESH: CHB1, and zeros
 abbrev pub freshImage : List ℕ
 freshImage = mark ++ replicate 20 0
 
--- BY THE HISTORY
+-- BY THE HISTORY, which has no run: an image holds none
 -- a posting: 17, then the judge's refusal, then 21
 abbrev pub postRefusalIn : History → List ℕ → List ℕ → ℕ
 postRefusalIn h entry output =
-    firstRefusal (entryRefusal entry ∷ judge h (readEntry entry) ∷ roomIn (offer h (readEntry entry)) output ∷ [])
+    firstRefusal (entryRefusal entry ∷ judgeBy Posted h (readEntry entry) ∷ roomIn (offer Posted h (readEntry entry)) output ∷ [])
 
 unfoldable pub postIn : History → List ℕ → List ℕ → PostingExit
 postIn h entry output =
-    let next = offer h (readEntry entry) in
+    let next = offer Posted h (readEntry entry) in
     cond (eqb (postRefusalIn h entry output) 0)
-    (record { given = postingGiven (repliedOf h (readEntry entry)) 0 (bytesIn next); output = savedBy next output })
+    (record { given = postingGiven (repliedOf Posted h (readEntry entry)) 0 (bytesIn next); output = savedBy next output })
     (record { given = refusedPosting (postRefusalIn h entry output) 0; output = output })
 
 -- a carry-over: 17, then 22, then 21
 abbrev pub carryRefusalIn : History → List ℕ → List ℕ → List ℕ → ℕ
-carryRefusalIn h run results output =
-    firstRefusal (runRefusal run ∷ resultsRefusal (readRun run) results ∷ roomIn (offers h (readRun run)) output ∷ [])
+carryRefusalIn h entries results output =
+    firstRefusal (entriesRefusal entries ∷ resultsRefusal (readEntries entries) results ∷ roomIn (offers Posted h (readEntries entries)) output ∷ [])
 
 unfoldable pub carryIn : History → List ℕ → List ℕ → List ℕ → CarryExit
-carryIn h run results output =
-    let next = offers h (readRun run) in
-    cond (eqb (carryRefusalIn h run results output) 0)
-    (record { given = acceptedCarry (bytesIn next); results = carryVerdicts h (readRun run) results; output = savedBy next output })
-    (record { given = refusedCarry (carryRefusalIn h run results output) 0; results = results; output = output })
+carryIn h entries results output =
+    let next = offers Posted h (readEntries entries) in
+    cond (eqb (carryRefusalIn h entries results output) 0)
+    (record { given = acceptedCarry (bytesIn next); results = carryVerdicts Posted h (readEntries entries) results; output = savedBy next output })
+    (record { given = refusedCarry (carryRefusalIn h entries results output) 0; results = results; output = output })
 
 unfoldable pub hostQueryIn : History → HostQuery → HostQueryAnswer
 hostQueryIn h check = checked (record { refusal = 0; «record» = 0; entries = length h })
@@ -105,19 +106,19 @@ hostQueryIn h (statement account allowance) = stated (statementGiven (statementI
 hostQueryIn h (contribution account node serial) = given (contributionGiven (contributionIn h account node serial) 0)
 hostQueryIn h (page account output) = paged (pageImageExit (pageIn h account output))
 
--- the next history, and what the call gives: a posting that is not refused offers its entry, a carry-over the entries of its run in
+-- the next history, and what the call gives: a posting that is not refused offers its entry, a carry-over the entries that it is given in
 -- turn; a query adds nothing
 unfoldable pub hostIn : History → HostCall → History × HostAnswer
 hostIn h (posting entry output) =
-    (cond (eqb (postRefusalIn h entry output) 0) (offer h (readEntry entry)) h, posted (postIn h entry output))
-hostIn h (carryOver run results output) =
-    (cond (eqb (carryRefusalIn h run results output) 0) (offers h (readRun run)) h, carried (carryIn h run results output))
+    (cond (eqb (postRefusalIn h entry output) 0) (offer Posted h (readEntry entry)) h, posted (postIn h entry output))
+hostIn h (carryOver entries results output) =
+    (cond (eqb (carryRefusalIn h entries results output) 0) (offers Posted h (readEntries entries)) h, carried (carryIn h entries results output))
 hostIn h (query q) = (h, queried (hostQueryIn h q))
 
--- what every lent entry and run satisfies: each byte is below 256
+-- what every lent entry and list of entries satisfies: each byte is below 256
 abbrev pub Lent : HostCall → Type 0
 Lent (posting entry output) = Bytes entry
-Lent (carryOver run results output) = Bytes run
+Lent (carryOver entries results output) = Bytes entries
 Lent (query q) = Unit {0}
 
 abbrev pub AllLent : List HostCall → Type 0
@@ -128,7 +129,7 @@ AllLent (c ∷ cs) = Lent c × AllLent cs
 pub record HostClaim (l : List ℕ) (h : History) (cs : List HostCall) : Type 0 where
   -- what each call gives, and its result list and output at the end, is the history's at that point
   pub answered : answersAlong hostOf l cs ≡ answersAlong hostIn h cs
-  -- the image after the list is the history's
+  -- the image after the entries is the history's
   pub image : after hostOf l cs ≡ imageIn (after hostIn h cs)
   -- it loads, and the loaded book keeps the history, whose every entry passed the judge
   pub loads : loadOf (after hostOf l cs) .refusal ≡ 0

@@ -5,12 +5,13 @@ use mathlib.Core.Bool.{true}
 use mathlib.Core.List.{List, [], _∷_}
 use lib.ListN.{length}
 use Rattle.entries.specs.Kinds.{kindOf}
+use Rattle.entries.specs.declared.arrivals.Arrival.{Arrival}
 use Rattle.entries.specs.declared.raw.Raw.{Raw}
 use Rattle.entries.specs.declared.kinds.Kind.{Kind}
 use Rattle.entries.specs.declared.kinds.Kind.the-variants as kind
-use Rattle.history.specs.History.{History, Amounts, entries, dated, refundEnd, points, fate, total, paidBy, openGuarantees, Balance, balance, amounts, judge, offers, onAccount, entriesOf, Reading, amountOf, standingAmount, heldOf, heldAmount, addedUp, settledBy, paidOutBy, customers}
+use Rattle.history.specs.History.{History, Amounts, entries, dated, refundEnd, points, fate, total, paidBy, openGuarantees, Balance, balance, amounts, judge, offers, onAccount, entriesOf, Reading, amountOf, standingAmount, billedAmount, heldOf, heldAmount, addedUp, settledBy, paidOutBy, customers}
 
--- the histories that offers give: no refusal stopped any entry, read against those before it
+-- the histories that offers give, and a run's steps: no refusal stopped any entry, read against those before it
 pub data Valid : History → Type 0 where
   empty : Valid []
   joins : {r : Raw} {h : History} → Valid h → judge h r ≡ 0 → Valid (r ∷ h)
@@ -46,7 +47,7 @@ sumsBy sum added b =
       guarantees = sum (amountOf kind.Guarantee);
       interest = added (λ x. x .interest);
       arrears = b .arrears;
-      bills = sum (standingAmount kind.Bill);
+      bills = sum billedAmount;
       paidOut = added (λ x. x .paidOut);
       retained = added (λ x. x .retained);
       held = sum heldAmount;
@@ -58,7 +59,7 @@ sumsBy sum added b =
 abbrev pub sumsOf : History → ℕ → AccountSums
 sumsOf h a = sumsBy (λ f. total f h (entriesOf h a)) (λ f. addedUp f (onAccount a) h) (balance h a)
 
--- Contributions, payments, deposits, guarantees, interest and arrears together are bills, paid out, retained, contributions held,
+-- Contributions, payments, deposits, guarantees, interest and arrears together are bills with late charges, paid out, retained, contributions held,
 -- deposit held, guarantee held and credit together.
 abbrev pub Conserved : AccountSums → Type 0
 Conserved s =
@@ -149,6 +150,6 @@ pub record Bounded (h : History) : Type 0 where
 -- proofs/Laws.antt shows them
 pub record Laws : Type 0 where
   -- offers give such a history, whatever is offered
-  pub valid : (rs : List Raw) → Valid (offers [] rs)
+  pub valid : (w : Arrival) (rs : List Raw) → Valid (offers w [] rs)
   pub lawful : (h : History) → Valid h → Lawful h
   pub bounded : (h : History) → Valid h → Bounded h

@@ -1,5 +1,6 @@
 pub mod History
 pub mod Laws
+pub mod Runs
 pub mod Guarantees
 pub mod Images
 pub mod Agreement
@@ -10,3 +11,4 @@ pub mod Trips
 pub mod Hosts
 pub mod PageFigures
 pub mod Witness
+pub mod RunFigures

@@ -6,6 +6,7 @@ use mathlib.Core.List.{List, [], _∷_, _++_}
 use lib.ListN.{replicate}
 use Rattle.decimal.specs.Decimal.{ascii}
 use Rattle.pages.specs.Pages.{pageExit}
+use Rattle.entries.specs.declared.arrivals.Arrival.the-variants.{Posted}
 use Rattle.history.specs.History.{History, offers}
 use Rattle.history.specs.Queries.{pageIn}
 use Rattle.history.specs.Guarantees.{entry}
@@ -14,7 +15,7 @@ use Rattle.history.specs.Guarantees.{entry}
 -- of another account.
 abbrev pub history : History
 history =
-    offers []
+    offers Posted []
     (entry 128 1 0 100000000 200 1 0 1 ∷
     entry 128 3 100 10000 30 7 0 2 ∷
     entry 5 4 100 700 0 0 0 3 ∷

@@ -1,7 +1,7 @@
 -- The queries, and what they give, as the history has it. Nothing here reads a book.
 use Prim.Native.Nat.{ℕ, zero, suc, _+_, min, _≤_}
 use mathlib.Core.Path.{_≡_}
-use mathlib.Core.Bool.{false, cond, not, _||_}
+use mathlib.Core.Bool.{Bool, true, false, cond, not, _||_}
 use mathlib.Core.List.{List, [], _∷_, _++_}
 use lib.ListN.{length, take, drop}
 use lib.Dec.{eqb, leb, ltb}
@@ -15,8 +15,9 @@ use Rattle.queries.specs.declared.contributions.ContributionReply.{Contribution
 use Rattle.pages.specs.Rows.{pageRows, textOf, AllLines}
 use Rattle.pages.specs.Pages.{PageExit, pageExit}
 use Rattle.pages.specs.declared.rows.EntryLine.{EntryLine}
-use Rattle.history.specs.History.{History, accounts, pointerTo, find, fate, targetEntry, balance, _⇒_, firstBroken, entriesOf, total, standingAmount, heldAmount, toArrears, refundsPaid}
+use Rattle.history.specs.History.{History, accounts, pointerTo, find, fate, targetEntry, balance, _⇒_, firstBroken, entriesOf, total, standingAmount, billedAmount, heldAmount, toArrears, refundsPaid}
 use Rattle.history.specs.Laws.{Valid}
+use Rattle.history.specs.Runs.{State, isOpen}
 use Rattle.history.specs.Images.{bytesIn, shortIn, roomIn, savedBy}
 
 -- a statement refuses only by 3; links read is the smaller of the allowance and the number of entries
@@ -24,7 +25,7 @@ abbrev pub statementBy : ℕ → History → ℕ → ℕ → StatementReply
 statementBy zero h account allowance =
     let b = balance h account in
     let es = entriesOf h account in
-    let bills = total (standingAmount kind.Bill) h (take allowance es) in
+    let bills = total billedAmount h (take allowance es) in
     let payments = total (standingAmount kind.Payment) h (take allowance es) in
     statementReply 0 (b .arrears) (b .credit) (b .deposit) (total heldAmount h es) (min allowance (length es)) bills payments (leb (length es) allowance)
 statementBy (suc n) h account allowance = statementReply (suc n) 0 0 0 0 0 0 0 false
@@ -94,8 +95,13 @@ pub data QueryAnswer : Type 0 where
   paged : PageExit → QueryAnswer  -- the refusal number, the length, and the buffer after it
   saved : ℕ → ℕ → List ℕ → QueryAnswer  -- the refusal number, the length, and the buffer after it
 
-unfoldable pub queryIn : History → Query → QueryAnswer
-queryIn h (statement account allowance) = stated (statementIn h account allowance)
-queryIn h (contribution account node serial) = given (contributionIn h account node serial)
-queryIn h (page account buffer) = paged (pageIn h account buffer)
-queryIn h (save buffer) = saved (roomIn h buffer) (cond (shortIn h buffer) 0 (bytesIn h)) (savedBy h buffer)
+-- a save is refused by 29 during a run, and leaves the buffer; then by 21
+abbrev pub saveIn : Bool → History → List ℕ → QueryAnswer
+saveIn true h buffer = saved 29 0 buffer
+saveIn false h buffer = saved (roomIn h buffer) (cond (shortIn h buffer) 0 (bytesIn h)) (savedBy h buffer)
+
+unfoldable pub queryIn : State → Query → QueryAnswer
+queryIn s (statement account allowance) = stated (statementIn (s .entries) account allowance)
+queryIn s (contribution account node serial) = given (contributionIn (s .entries) account node serial)
+queryIn s (page account buffer) = paged (pageIn (s .entries) account buffer)
+queryIn s (save buffer) = saveIn (isOpen (s .run)) (s .entries) buffer

@@ -12,7 +12,7 @@ use Rattle.history.specs.Queries as queries
 use Rattle.history.specs.Calls.{Call, posting, carryOver, query, CallAnswer, posted, carried, queried, answersIn, historyOf}
 
 -- kind, node, account, day, serial; amount, a, b; the serial of node 1's entry that it names, or 0
-abbrev entry : ℕ → ℕ → ℕ → ℕ → ℕ → ℕ → ℕ → ℕ → ℕ → Raw
+abbrev pub entry : ℕ → ℕ → ℕ → ℕ → ℕ → ℕ → ℕ → ℕ → ℕ → Raw
 entry kind node account day serial amount a b named =
     record {
       kind = kind;
@@ -28,17 +28,17 @@ entry kind node account day serial amount a b named =
     }
 
 -- the entry's number; arrears settled, paid out, retained, interest
-abbrev accepted : ℕ → ℕ → ℕ → ℕ → ℕ → CallAnswer
+abbrev pub accepted : ℕ → ℕ → ℕ → ℕ → ℕ → CallAnswer
 accepted number settled paidOut retained interest = posted (postingReply 0 number settled paidOut retained interest)
 
-abbrev refused : ℕ → CallAnswer
+abbrev pub refused : ℕ → CallAnswer
 refused n = posted (postingReply n 0 0 0 0 0)
 
 -- account, allowance; arrears, credit, deposit held, held, links read, bills, payments, complete
-abbrev statement : ℕ → ℕ → Call
+abbrev pub statement : ℕ → ℕ → Call
 statement account allowance = query (queries.statement account allowance)
 
-abbrev stated : ℕ → ℕ → ℕ → ℕ → ℕ → ℕ → ℕ → Bool → CallAnswer
+abbrev pub stated : ℕ → ℕ → ℕ → ℕ → ℕ → ℕ → ℕ → Bool → CallAnswer
 stated arrears credit deposit held links bills payments complete =
     queried (queries.stated (statementReply 0 arrears credit deposit held links bills payments complete))
 
@@ -55,7 +55,7 @@ pub record AnsweredCall : Type 0 where
   pub answer : CallAnswer
 
 infix 20 _gives_
-abbrev _gives_ : Call → CallAnswer → AnsweredCall
+abbrev pub _gives_ : Call → CallAnswer → AnsweredCall
 c gives x = record { call = c; answer = x }
 
 abbrev pub witness : List AnsweredCall
@@ -143,7 +143,7 @@ answers = map (λ (x : AnsweredCall). x .answer) witness
 
 -- an account's sums after the list: contributions, payments, deposits, guarantees, interest, arrears; bills, paid out, retained, held,
 -- deposit held, guarantee held, credit
-abbrev sums : ℕ → ℕ → ℕ → ℕ → ℕ → ℕ → ℕ → ℕ → ℕ → ℕ → ℕ → ℕ → ℕ → AccountSums
+abbrev pub sums : ℕ → ℕ → ℕ → ℕ → ℕ → ℕ → ℕ → ℕ → ℕ → ℕ → ℕ → ℕ → ℕ → AccountSums
 sums contributions payments deposits guarantees interest arrears bills paidOut retained held deposit guaranteeHeld credit =
     record {
       contributions = contributions;

@@ -1,4 +1,4 @@
--- A carry-over of a run of entries into an image.
+-- A carry-over of entries into an image.
 use Prim.Native.Nat.{ℕ, _+_, _/_, _%_}
 use mathlib.Core.Bool.{cond}
 use mathlib.Core.List.{List, [], _∷_, map}
@@ -28,38 +28,38 @@ pub record CarryExit : Type 0 where
   pub results : List ℕ
   pub output : List ℕ
 
--- the entries of a run: its records, whose next indices are not read
-unfoldable pub readRun : List ℕ → List Raw
-readRun run = map rawIn (decodeAll (length run / recordBytes) run)
+-- the entries: records, whose next indices are not read
+unfoldable pub readEntries : List ℕ → List Raw
+readEntries entries = map rawIn (decodeAll (length entries / recordBytes) entries)
 
--- the book after a run
+-- the book after the entries
 abbrev pub nextOf : Book → List ℕ → Book
-nextOf b run = postsOf b (readRun run)
+nextOf b entries = postsOf b (readEntries entries)
 
--- 17: the run's length is no multiple of 24
-unfoldable pub runRefusal : List ℕ → ℕ
-runRefusal run = cond (eqb (length run % recordBytes) 0) 0 (refusalNumber no.ImageLength)
+-- 17: their length is no multiple of 24
+unfoldable pub entriesRefusal : List ℕ → ℕ
+entriesRefusal entries = cond (eqb (length entries % recordBytes) 0) 0 (refusalNumber no.ImageLength)
 
--- 17, then the carry-over's 22, then the save's 21
+-- 17, then the carry-over's 22, then the save's 29 and 21
 unfoldable pub carryRefusal : Book → List ℕ → List ℕ → List ℕ → ℕ
-carryRefusal b run results output =
-    firstRefusal (runRefusal run ∷ carryRefusalOf (readRun run) results ∷ saveOf (nextOf b run) output .refusal ∷ [])
+carryRefusal b entries results output =
+    firstRefusal (entriesRefusal entries ∷ carryRefusalOf (readEntries entries) results ∷ saveOf (nextOf b entries) output .refusal ∷ [])
 
 -- a refused carry-over writes nothing
 unfoldable pub carryInto : Book → List ℕ → List ℕ → List ℕ → CarryExit
-carryInto b run results output =
-    cond (eqb (carryRefusal b run results output) 0)
+carryInto b entries results output =
+    cond (eqb (carryRefusal b entries results output) 0)
     (record {
-      given = acceptedCarry (bytesOf (nextOf b run));
-      results = carryResultsOf b (readRun run) results;
-      output = savedIn (nextOf b run) output;
+      given = acceptedCarry (bytesOf (nextOf b entries));
+      results = carryResultsOf b (readEntries entries) results;
+      output = savedIn (nextOf b entries) output;
     })
-    (record { given = refusedCarry (carryRefusal b run results output) 0; results = results; output = output })
+    (record { given = refusedCarry (carryRefusal b entries results output) 0; results = results; output = output })
 
 -- the image first
 unfoldable pub carryImage : LoadedReply → List ℕ → List ℕ → List ℕ → CarryExit
-carryImage l run results output =
-    cond (eqb (l .refusal) 0) (carryInto (l .book) run results output)
+carryImage l entries results output =
+    cond (eqb (l .refusal) 0) (carryInto (l .book) entries results output)
     (record { given = refusedCarry (l .refusal) (l .faulty); results = results; output = output })
 
 -- a list with values set one after another from a place on, as far as it goes; no promise of a call cites it

@@ -1,4 +1,4 @@
-// A carry-over of a run of entries into an image.
+// A carry-over of entries into an image.
 use book::Book;
 use codec::RECORD;
 use entries::Refusal;
@@ -37,7 +37,7 @@ fn refused(refusal: Refusal, record: u16) -> CarryGiven
     }
 }
 
-// The most entries that an image can have after a run of so many.
+// The most entries that an image can have after so many more.
 fn most_after(count: u16, more: usize) -> usize
     ensures { λ r. ⌜ (r ≡ min (min count entriesMost + more) entriesMost) × (r ≤ entriesMost) ⌝ }
 {
@@ -49,36 +49,40 @@ fn most_after(count: u16, more: usize) -> usize
     }
 }
 
-// Whether an output of a length is too short for the image after the run. Where it has no room for all the entries, they are
+// Whether an output of a length is too short for the image after the entries. Where it has no room for all the entries, they are
 // posted to learn how many are accepted.
-fn too_short(book: Book, run: &[u8], length: usize) -> bool
-    ensures { λ r. ⌜ r ≡ ltb length (bytesOf (nextOf book (now (run .entry)))) ⌝ }
+fn too_short(book: Book, entries: &[u8], length: usize) -> bool
+    ensures { λ r. ⌜ r ≡ ltb length (bytesOf (nextOf book (now (entries .entry)))) ⌝ }
 {
-    let most = most_after(book.count, run.len() / RECORD);
+    let most = most_after(book.count, entries.len() / RECORD);
     if RECORD * (most + 1) <= length {
         return false;
     }
     // The results are not read.
     let mut unused = [0u8; 1];
-    let replayed = replay(book, run, false, &mut unused);
+    let replayed = replay(book, entries, false, &mut unused);
     let entry_count = entry_count(replayed.book.count);
     length < RECORD * (entry_count as usize + 1)
 }
 
 // A carry-over into a book, which is then saved.
-fn carry_into(book: Book, run: &[u8], results: &mut [u8], output: &mut [u8]) -> CarryGiven
-    ensures { λ r. ⌜ (record { given = r; results = now (results .exit); output = now (output .exit) }) ≡ carryInto book (now (run .entry)) (now (results .entry)) (now (output .entry)) ⌝ }
+fn carry_into(book: Book, entries: &[u8], results: &mut [u8], output: &mut [u8]) -> CarryGiven
+    ensures { λ r. ⌜ (record { given = r; results = now (results .exit); output = now (output .exit) }) ≡ carryInto book (now (entries .entry)) (now (results .entry)) (now (output .entry)) ⌝ }
 {
-    if run.len() % RECORD != 0 {
+    if entries.len() % RECORD != 0 {
         return refused(Refusal::ImageLength, 0);
     }
-    if results.len() < run.len() / RECORD {
+    if results.len() < entries.len() / RECORD {
         return refused(Refusal::ResultsShort, 0);
     }
-    if too_short(book, run, output.len()) {
+    let run = book.run;
+    if run.is_open() {
+        return refused(Refusal::SaveInRun, 0);
+    }
+    if too_short(book, entries, output.len()) {
         return refused(Refusal::BufferShort, 0);
     }
-    let replayed = replay(book, run, false, results);
+    let replayed = replay(book, entries, false, results);
     let next = replayed.book;
     match save(next, output) {
         SaveAnswer::Length(bytes) => CarryGiven {
@@ -90,16 +94,21 @@ fn carry_into(book: Book, run: &[u8], results: &mut [u8], output: &mut [u8]) -> 
     }
 }
 
-// Carries a run of entries over into an image.
-pub fn carry_image(image: &[u8], run: &[u8], results: &mut [u8], output: &mut [u8]) -> CarryGiven
-    ensures { λ r. ⌜ (record { given = r; results = now (results .exit); output = now (output .exit) }) ≡ carryImage (loadOf (now (image .entry))) (now (run .entry)) (now (results .entry)) (now (output .entry)) ⌝ }
+// Carries entries over into an image.
+pub fn carry_image(
+    image: &[u8],
+    entries: &[u8],
+    results: &mut [u8],
+    output: &mut [u8],
+) -> CarryGiven
+    ensures { λ r. ⌜ (record { given = r; results = now (results .exit); output = now (output .exit) }) ≡ carryImage (loadOf (now (image .entry))) (now (entries .entry)) (now (results .entry)) (now (output .entry)) ⌝ }
 {
     let loaded = load(image);
     let answer = loaded.answer;
     match answer {
         LoadAnswer::Accepted => {
             let book = loaded.book;
-            carry_into(book, run, results, output)
+            carry_into(book, entries, results, output)
         }
         LoadAnswer::Refused { refusal, record } => refused(refusal, record),
     }

@@ -12,7 +12,7 @@ use Rattle.book.specs.Posting.{postOf}
 use Rattle.saves.specs.Saves.{SaveReply, refusedSave, acceptedSave, saveOf, savedIn}
 use Rattle.entries.proofs.Order.{first-here, first-later, first-only}
 use Rattle.entries.proofs.RefusalsLaws.{refusal-above, is-refusal}
-use Rattle.saves.proofs.Saves.{save-size, save-short}
+use Rattle.saves.proofs.Saves.{save-size, save-left}
 use Rattle.codec.specs.Records.{recordBytes}
 use Rattle.image_post.specs.Postings.{postingGiven, refusedPosting, readEntry, entryRefusal, postRefusal, postInto, postImage}
 
@@ -43,15 +43,15 @@ post-accepted b next entry output after n h e q saved left =
     let none : postRefusal b entry output ≡ 0 = post-saved b entry output h e ∙ ap (λ (x : Book). saveOf x output .refusal) (sym q) ∙ ap (λ (x : SaveReply). x .refusal) (sym saved) in
     rw (eq-eqb (postRefusal b entry output) 0 none, left, save-size next output n saved, q) refl
 
-pub post-short : (b next : Book) (entry output after : List ℕ) (n : Refusal) → length entry ≡ recordBytes →
+-- where the save is refused
+pub post-unsaved : (b next : Book) (entry output after : List ℕ) (n : Refusal) → length entry ≡ recordBytes →
     postOf b (readEntry entry) .reply .refusal ≡ 0 → next ≡ postOf b (readEntry entry) .book →
     refusedSave (refusalNumber n) ≡ saveOf next output → after ≡ savedIn next output →
     record { given = refusedPosting (refusalNumber n) 0; output = after } ≡ postInto b entry output
-unfolding postInto savedIn
-post-short b next entry output after n h e q saved left =
+unfolding postInto
+post-unsaved b next entry output after n h e q saved left =
     let by : postRefusal b entry output ≡ refusalNumber n = post-saved b entry output h e ∙ ap (λ (x : Book). saveOf x output .refusal) (sym q) ∙ ap (λ (x : SaveReply). x .refusal) (sym saved) in
-    let less = save-short next output (refusalNumber n) (refusal-above n) saved in
-    rw (by, is-refusal n, left, less) refl
+    rw (by, is-refusal n, left, save-left next output (refusalNumber n) (refusal-above n) saved) refl
 
 -- a refused image
 pub post-image-refused : (b : Book) (n : Refusal) (i : ℕ) (entry output : List ℕ) →

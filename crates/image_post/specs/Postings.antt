@@ -47,7 +47,7 @@ readEntry entry = recordIn entry 0 .raw
 unfoldable pub entryRefusal : List ℕ → ℕ
 entryRefusal entry = cond (eqb (length entry) recordBytes) 0 (refusalNumber no.ImageLength)
 
--- 17, then the posting's, then 21
+-- 17, then the posting's, then the save's 29 and 21
 unfoldable pub postRefusal : Book → List ℕ → List ℕ → ℕ
 postRefusal b entry output =
     let p = postOf b (readEntry entry) in

@@ -11,12 +11,11 @@ use lib.Dec.{leb}
 use borrow.Author.Tests.{leb-true, leb-false, le-leb, lt-leb}
 use Rattle.measures.specs.Cents.{cents, most}
 use Rattle.measures.specs.declared.Cents.{Cents}
-use Rattle.entries.specs.Kinds.{sameOf}
+use Rattle.entries.specs.Kinds.{countsWithBills}
 use Rattle.entries.specs.Data.{particularsOf, oneMore}
 use Rattle.entries.specs.declared.kinds.Kind.{Kind}
-use Rattle.entries.specs.declared.kinds.Kind.the-variants as kind
 use Rattle.entries.specs.declared.data.Entry.{Entry}
-use Rattle.queries.specs.Chain.{totalOf, heldOf, standingOf}
+use Rattle.queries.specs.Chain.{totalOf, heldOf, standingOf, isPayment}
 use Rattle.queries.specs.Walk.{sums, noSums, standingIn, sumsWith}
 use Rattle.queries.specs.declared.statements.Sums.{Sums}
 
@@ -44,9 +43,10 @@ abbrev pub sumsOver : ℕ → Sums → List Entry → Sums
 sumsOver allowance s [] = s
 sumsOver allowance s (e ∷ es) = sumsOver allowance (sumsWith s e allowance) es
 
-standing-same : (k : Kind) (e : Entry) → standingIn k (particularsOf (e .«data»)) ≡ cents (standingOf k e)
+standing-same : (counts : Kind → Bool) (e : Entry) →
+    standingIn (counts (particularsOf (e .«data») .kind)) (particularsOf (e .«data»)) ≡ cents (standingOf counts e)
 unfolding standingIn standingOf
-standing-same k e = go (sameOf (particularsOf (e .«data») .kind) k) (particularsOf (e .«data») .standing)
+standing-same counts e = go (counts (particularsOf (e .«data») .kind)) (particularsOf (e .«data») .standing)
   where
     go : (t : Bool) (x : Cents) → cond t x (cents 0) ≡ cents (cond t (x .0) 0)
     go true x = refl
@@ -69,12 +69,12 @@ with-unread allowance n r h b p e u f =
 
 with-read : (allowance n r h b p : ℕ) (e : Entry) → r < allowance → n < 65535 → r < 65535 →
     sumsWith (plain n r h b p) e allowance ≡
-    plain (n + 1) (r + 1) (min (h + heldOf e) most) (min (b + standingOf kind.Bill e) most) (min (p + standingOf kind.Payment e) most)
+    plain (n + 1) (r + 1) (min (h + heldOf e) most) (min (b + standingOf countsWithBills e) most) (min (p + standingOf isPayment e) most)
 unfolding sumsWith heldOf
 with-read allowance n r h b p e u f g =
     let m : oneMore n ≡ n + 1 = min-eq-left (omega arith) in
     let l : oneMore r ≡ r + 1 = min-eq-left (omega arith) in
-    rw (lt-leb _ _ u, m, l, standing-same kind.Bill e, standing-same kind.Payment e) refl
+    rw (lt-leb _ _ u, m, l, standing-same countsWithBills e, standing-same isPayment e) refl
 
 -- what the walk adds to sums so far: each entry's length and held; links, bills and payments while the allowance lasts
 abbrev Summed : ℕ → List Entry → Type 0
@@ -82,55 +82,55 @@ Summed allowance es =
     (n r h b p : ℕ) → n + length es ≤ 65535 → r ≤ n → h ≤ most → b ≤ most → p ≤ most →
     sumsOver allowance (plain n r h b p) es ≡
     plain (n + length es) (r + min (allowance - r) (length es)) (min (h + totalOf heldOf es) most)
-    (min (b + totalOf (standingOf kind.Bill) (take (allowance - r) es)) most)
-    (min (p + totalOf (standingOf kind.Payment) (take (allowance - r) es)) most)
+    (min (b + totalOf (standingOf countsWithBills) (take (allowance - r) es)) most)
+    (min (p + totalOf (standingOf isPayment) (take (allowance - r) es)) most)
 
 summed : (allowance : ℕ) (es : List Entry) → Summed allowance es
 unfolding totalOf
 summed allowance [] n r h b p short below hm bm pm =
     let z : min (allowance - r) 0 ≡ 0 = min-zero (allowance - r) in
-    equal (omega arith) (omega arith) (kept most h hm) (kept-none kind.Bill b bm) (kept-none kind.Payment p pm)
+    equal (omega arith) (omega arith) (kept most h hm) (kept-none countsWithBills b bm) (kept-none isPayment p pm)
   where
-    kept-none : (k : Kind) (x : ℕ) → x ≤ most → x ≡ min (x + totalOf (standingOf k) (take (allowance - r) [])) most
-    kept-none k x xm = rw take-nil (kept most x xm)
+    kept-none : (counts : Kind → Bool) (x : ℕ) → x ≤ most → x ≡ min (x + totalOf (standingOf counts) (take (allowance - r) [])) most
+    kept-none counts x xm = rw take-nil (kept most x xm)
 summed allowance (e ∷ es) n r h b p short below hm bm pm = go (leb allowance r) refl (summed allowance es)
   where
-    unread : (k : Kind) (x : ℕ) → allowance ≤ r →
-        min (x + totalOf (standingOf k) (take (allowance - r) es)) most ≡ min (x + totalOf (standingOf k) (take (allowance - r) (e ∷ es))) most
-    unread k x u = rw (sub-eq-zero-of-le u) refl
+    unread : (counts : Kind → Bool) (x : ℕ) → allowance ≤ r →
+        min (x + totalOf (standingOf counts) (take (allowance - r) es)) most ≡ min (x + totalOf (standingOf counts) (take (allowance - r) (e ∷ es))) most
+    unread counts x u = rw (sub-eq-zero-of-le u) refl
 
-    read : (k : Kind) (x : ℕ) → r < allowance →
-        min (min (x + standingOf k e) most + totalOf (standingOf k) (take (allowance - (r + 1)) es)) most ≡
-        min (x + totalOf (standingOf k) (take (allowance - r) (e ∷ es))) most
-    read k x u =
+    read : (counts : Kind → Bool) (x : ℕ) → r < allowance →
+        min (min (x + standingOf counts e) most + totalOf (standingOf counts) (take (allowance - (r + 1)) es)) most ≡
+        min (x + totalOf (standingOf counts) (take (allowance - r) (e ∷ es))) most
+    read counts x u =
         let z : allowance - r ≡ suc (allowance - (r + 1)) = omega arith in
-        rw z (stops-cons most x (standingOf k e) (totalOf (standingOf k) (take (allowance - (r + 1)) es)))
+        rw z (stops-cons most x (standingOf counts e) (totalOf (standingOf counts) (take (allowance - (r + 1)) es)))
 
     go : (t : Bool) → leb allowance r ≡ t → Summed allowance es → sumsOver allowance (sumsWith (plain n r h b p) e allowance) es ≡
         plain (n + length (e ∷ es)) (r + min (allowance - r) (length (e ∷ es))) (min (h + totalOf heldOf (e ∷ es)) most)
-        (min (b + totalOf (standingOf kind.Bill) (take (allowance - r) (e ∷ es))) most)
-        (min (p + totalOf (standingOf kind.Payment) (take (allowance - r) (e ∷ es))) most)
+        (min (b + totalOf (standingOf countsWithBills) (take (allowance - r) (e ∷ es))) most)
+        (min (p + totalOf (standingOf isPayment) (take (allowance - r) (e ∷ es))) most)
     go true q rest =
         let u = leb-true allowance r q in
         let x : min (allowance - r) (length es) ≡ 0 = rw (sub-eq-zero-of-le u) (min-eq-left (omega arith)) in
         let y : min (allowance - r) (suc (length es)) ≡ 0 = rw (sub-eq-zero-of-le u) (min-eq-left (omega arith)) in
         rw (with-unread allowance n r h b p e u (omega arith))
         (rest (n + 1) r (min (h + heldOf e) most) b p (omega arith) (omega arith) (min-le-right _ _) bm pm ∙
-        equal (omega arith) (omega arith) (stops-cons most h (heldOf e) (totalOf heldOf es)) (unread kind.Bill b u) (unread kind.Payment p u))
+        equal (omega arith) (omega arith) (stops-cons most h (heldOf e) (totalOf heldOf es)) (unread countsWithBills b u) (unread isPayment p u))
     go false q rest =
         let u = leb-false allowance r q in
         let z : allowance - r ≡ suc (allowance - (r + 1)) = omega arith in
         let y : min (allowance - r) (suc (length es)) ≡ suc (min (allowance - (r + 1)) (length es)) = rw z (suc-min-suc _ _) in
         rw (with-read allowance n r h b p e u (omega arith) (omega arith))
-        (rest (n + 1) (r + 1) (min (h + heldOf e) most) (min (b + standingOf kind.Bill e) most) (min (p + standingOf kind.Payment e) most)
+        (rest (n + 1) (r + 1) (min (h + heldOf e) most) (min (b + standingOf countsWithBills e) most) (min (p + standingOf isPayment e) most)
         (omega arith) (omega arith) (min-le-right _ _) (min-le-right _ _) (min-le-right _ _) ∙
-        equal (omega arith) (omega arith) (stops-cons most h (heldOf e) (totalOf heldOf es)) (read kind.Bill b u) (read kind.Payment p u))
+        equal (omega arith) (omega arith) (stops-cons most h (heldOf e) (totalOf heldOf es)) (read countsWithBills b u) (read isPayment p u))
 
 -- the walk over a whole chain
 pub whole : (allowance : ℕ) (es : List Entry) → length es ≤ 65535 →
     sumsOver allowance noSums es ≡
     plain (length es) (min allowance (length es)) (min (totalOf heldOf es) most)
-    (min (totalOf (standingOf kind.Bill) (take allowance es)) most)
-    (min (totalOf (standingOf kind.Payment) (take allowance es)) most)
+    (min (totalOf (standingOf countsWithBills) (take allowance es)) most)
+    (min (totalOf (standingOf isPayment) (take allowance es)) most)
 whole allowance es short =
     summed allowance es 0 0 0 0 0 (omega arith) (omega arith) (omega arith) (omega arith) (omega arith) ∙ simp (sub-zero, zero-add)

@@ -1,10 +1,11 @@
 -- An account's chain, and what the queries read of it.
 use Prim.Native.Nat.{ℕ, _+_}
-use mathlib.Core.Bool.{cond}
+use mathlib.Core.Bool.{Bool, cond}
 use mathlib.Core.List.{List, [], _∷_, map}
 use Rattle.entries.specs.Data.{particularsOf}
 use Rattle.entries.specs.Kinds.{sameOf}
 use Rattle.entries.specs.declared.kinds.Kind.{Kind}
+use Rattle.entries.specs.declared.kinds.Kind.the-variants as kind
 use Rattle.entries.specs.declared.data.Entry.{Entry}
 use Rattle.book.specs.Fresh.{entriesMost}
 use Rattle.book.specs.Chain.{Link, walkOf}
@@ -31,6 +32,9 @@ totalOf f (e ∷ es) = f e + totalOf f es
 unfoldable pub heldOf : Entry → ℕ
 heldOf e = particularsOf (e .«data») .held .0
 
--- the standing amount of an entry of a kind, and 0 of an entry of another
-unfoldable pub standingOf : Kind → Entry → ℕ
-standingOf k e = cond (sameOf (particularsOf (e .«data») .kind) k) (particularsOf (e .«data») .standing .0) 0
+-- the standing amount of an entry whose kind counts, and 0 of another
+unfoldable pub standingOf : (Kind → Bool) → Entry → ℕ
+standingOf counts e = cond (counts (particularsOf (e .«data») .kind)) (particularsOf (e .«data») .standing .0) 0
+
+abbrev pub isPayment : Kind → Bool
+isPayment k = sameOf k kind.Payment

@@ -5,9 +5,9 @@ use mathlib.Core.List.{List, [], _∷_}
 use lib.ListN.{length, take}
 use lib.Dec.{leb}
 use Rattle.measures.specs.Cents.{most}
+use Rattle.entries.specs.Kinds.{countsWithBills}
 use Rattle.entries.specs.Ranges.{between}
 use Rattle.entries.specs.Refusals.{refusalNumber, Row, _⇒_, checkRows, decidedOf}
-use Rattle.entries.specs.declared.kinds.Kind.the-variants as kind
 use Rattle.entries.specs.declared.data.Entry.{Entry}
 use Rattle.entries.specs.declared.refusals.Refusal.the-variants as no
 use Rattle.entries.specs.declared.refusals.Check.the-variants as check
@@ -15,7 +15,7 @@ use Rattle.rules.specs.declared.accounts.Account.{Account}
 use Rattle.book.specs.Fresh.{accountsMost}
 use Rattle.book.specs.Posting.{accountAt}
 use Rattle.book.specs.declared.Book.{Book}
-use Rattle.queries.specs.Chain.{chainAt, totalOf, heldOf, standingOf}
+use Rattle.queries.specs.Chain.{chainAt, totalOf, heldOf, standingOf, isPayment}
 use Rattle.queries.specs.Replies.{statementReply}
 use Rattle.queries.specs.declared.statements.StatementAnswer.{StatementAnswer}
 use Rattle.queries.specs.declared.statements.StatementAnswer.the-variants.{Refused, Given}
@@ -36,8 +36,8 @@ statementReplyOf (Given f) =
     (f .complete)
 
 -- The account's arrears, credit and deposit held, and held summed over its contributions; links read, and the sums of
--- standing bills and standing payments among the entries read; complete exactly when the length is at most the allowance.
--- A sum stops at 2^64 - 1.
+-- standing bills, with which late charges count, and standing payments among the entries read; complete exactly when the
+-- length is at most the allowance. A sum stops at 2^64 - 1.
 unfoldable pub givenOf : Account → List Entry → ℕ → StatementReply
 givenOf acc chain allowance =
     statementReply 0
@@ -46,8 +46,8 @@ givenOf acc chain allowance =
     (acc .deposit .0)
     (min (totalOf heldOf chain) most)
     (min allowance (length chain))
-    (min (totalOf (standingOf kind.Bill) (take allowance chain)) most)
-    (min (totalOf (standingOf kind.Payment) (take allowance chain)) most)
+    (min (totalOf (standingOf countsWithBills) (take allowance chain)) most)
+    (min (totalOf (standingOf isPayment) (take allowance chain)) most)
     (leb (length chain) allowance)
 
 abbrev pub statementRows : ℕ → List Row

@@ -21,7 +21,7 @@ pub struct StatementFigures {
     // Of all the account's contributions.
     pub held: Cents,
     pub links_read: u16,
-    // Of the entries read.
+    // Of the entries read; late charges count with bills.
     pub bills: Cents,
     pub payments: Cents,
     pub complete: bool,
@@ -86,12 +86,11 @@ struct Sums {
     payments: Cents,
 }
 
-// The standing amount of an entry of a kind, and 0 of an entry of another.
-fn standing(particulars: Particulars, kind: Kind) -> Cents
-    ensures { λ r. ⌜ r ≡ standingIn kind particulars ⌝ }
+// The standing amount of an entry that counts, and 0 of another.
+fn standing(particulars: Particulars, counts: bool) -> Cents
+    ensures { λ r. ⌜ r ≡ standingIn counts particulars ⌝ }
 {
-    let own = particulars.kind;
-    if own.is(kind) {
+    if counts {
         particulars.standing
     } else {
         Cents(0)
@@ -130,12 +129,15 @@ impl Sums {
                 payments,
             };
         }
+        let kind = particulars.kind;
+        let billed = standing(particulars, kind.counts_with_bills());
+        let paid = standing(particulars, kind.is(Kind::Payment));
         Sums {
             length,
             links_read: one_more(self.links_read),
             held,
-            bills: self.bills.plus(standing(particulars, Kind::Bill)),
-            payments: self.payments.plus(standing(particulars, Kind::Payment)),
+            bills: self.bills.plus(billed),
+            payments: self.payments.plus(paid),
         }
     }
 

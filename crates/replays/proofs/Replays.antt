@@ -1,4 +1,4 @@
--- Laws of records posted in turn, record by record.
+-- Laws of records that come in one after another, record by record.
 use Prim.Native.Nat.{ℕ, suc, _+_, _*_, _-_, _/_, _<_, _≤_}
 use mathlib.Core.Path.{_≡_, refl, sym, ap, _∙_}
 use mathlib.Core.Bool.{Bool, true, false, cond, not, _&&_}
@@ -10,6 +10,8 @@ use lib.Dec.{eqb}
 use borrow.Author.Tests.{ne-eqb}
 use Rattle.entries.specs.Data.{oneMore}
 use Rattle.entries.specs.Refusals.{refusalNumber, refuseIf}
+use Rattle.entries.specs.declared.arrivals.Arrival.{Arrival}
+use Rattle.entries.specs.declared.arrivals.Arrival.the-variants.{Recorded}
 use Rattle.entries.specs.declared.raw.Raw.{Raw}
 use Rattle.entries.specs.declared.refusals.Refusal.{Refusal}
 use Rattle.entries.specs.declared.refusals.Refusal.the-variants as no
@@ -21,54 +23,62 @@ use Rattle.changes.specs.declared.Decision.{Decision}
 use Rattle.changes.specs.declared.Decision.the-variants.{Refused, Accepted}
 use Rattle.codec.specs.Records.{recordBytes, decodeRecord, recordIn, decodeAll}
 use Rattle.codec.specs.declared.Record.{Record}
-use Rattle.book.specs.Posting.{accountAt, decisionOf, postOf}
+use Rattle.book.specs.Posting.{accountAt, decisionOf, enterOf}
 use Rattle.book.specs.declared.Book.{Book}
 use Rattle.replays.specs.Loaded.{acceptedLoad, refusedLoad, recordRefusal}
-use Rattle.replays.specs.Replays.{listedIn, stopOf, replayOf}
+use Rattle.replays.specs.Replays.{listedIn, arrives, comesIn, stopOf, replayOf}
 
 -- WHAT ENDS AN IMAGE
 
 abbrev newestAt : Book → Record → ℕ
 newestAt b r = accountAt b (r .raw .account) .newest
 
--- whether a record is refused, by the decision on its posting
+-- whether a record is refused, by the decision on its entry
 abbrev stopBy : Book → Record → Decision → ℕ
 stopBy b r o =
     cond (eqb (postingReplyOf (answerOf o (b .count + 1)) .refusal) 0) (cond (eqb (r .next) (newestAt b r)) 0 (refusalNumber no.NextIndex))
     (postingReplyOf (answerOf o (b .count + 1)) .refusal)
 
 pub end-refused : (image : Bool) (b : Book) (r : Record) (n : Refusal) →
-    stopOf (decisionOf b (r .raw)) image (r .next) (newestAt b r) ≡ check.Refused n → (image ≡ true) × (refusalNumber n ≡ recordRefusal b r)
-unfolding stopOf refuseIf recordRefusal postOf answerOf postingReplyOf checkNumber
-end-refused image b r n = go image (decisionOf b (r .raw))
+    stopOf (decisionOf (arrives image (b .run)) b (r .raw)) image (r .next) (newestAt b r) ≡ check.Refused n → (image ≡ true) × (refusalNumber n ≡ recordRefusal b r)
+unfolding stopOf refuseIf recordRefusal enterOf answerOf postingReplyOf checkNumber
+end-refused image b r n = by image
   where
     unlinked : (t : Bool) → refuseIf check.Passed (not t) no.NextIndex ≡ check.Refused n → refusalNumber n ≡ cond t 0 (refusalNumber no.NextIndex)
     unlinked true e = sym (ap checkNumber e)
     unlinked false e = sym (ap checkNumber e)
 
-    go : (image : Bool) (o : Decision) → stopOf o image (r .next) (newestAt b r) ≡ check.Refused n → (image ≡ true) × (refusalNumber n ≡ stopBy b r o)
-    go false o e = absurd (omega (arith, ap checkNumber e, refusal-above n))
-    go true (Refused m) e = (refl, rw (is-refusal m) (sym (ap checkNumber e)))
-    go true (Accepted c) e = (refl, unlinked (eqb (r .next) (newestAt b r)) e)
+    go : (o : Decision) → stopOf o true (r .next) (newestAt b r) ≡ check.Refused n → refusalNumber n ≡ stopBy b r o
+    go (Refused m) e = rw (is-refusal m) (sym (ap checkNumber e))
+    go (Accepted c) e = unlinked (eqb (r .next) (newestAt b r)) e
+
+    by : (image : Bool) → stopOf (decisionOf (arrives image (b .run)) b (r .raw)) image (r .next) (newestAt b r) ≡ check.Refused n →
+        (image ≡ true) × (refusalNumber n ≡ recordRefusal b r)
+    by false e = absurd (omega (arith, ap checkNumber e, refusal-above n))
+    by true e = (refl, go (decisionOf Recorded b (r .raw)) e)
 
 pub end-passed : (image : Bool) (b : Book) (r : Record) →
-    stopOf (decisionOf b (r .raw)) image (r .next) (newestAt b r) ≡ check.Passed → image && not (eqb (recordRefusal b r) 0) ≡ false
-unfolding stopOf refuseIf recordRefusal postOf answerOf postingReplyOf checkNumber
-end-passed image b r = go image (decisionOf b (r .raw))
+    stopOf (decisionOf (arrives image (b .run)) b (r .raw)) image (r .next) (newestAt b r) ≡ check.Passed → image && not (eqb (recordRefusal b r) 0) ≡ false
+unfolding stopOf refuseIf recordRefusal enterOf answerOf postingReplyOf checkNumber
+end-passed image b r = by image
   where
     linked : (t : Bool) → refuseIf check.Passed (not t) no.NextIndex ≡ check.Passed → not (eqb (cond t 0 (refusalNumber no.NextIndex)) 0) ≡ false
     linked true e = refl
     linked false e = absurd (omega (arith, ap checkNumber e))
 
-    go : (image : Bool) (o : Decision) → stopOf o image (r .next) (newestAt b r) ≡ check.Passed → image && not (eqb (stopBy b r o) 0) ≡ false
-    go false o e = refl
-    go true (Refused m) e = absurd (omega (arith, ap checkNumber e, refusal-above m))
-    go true (Accepted c) e = linked (eqb (r .next) (newestAt b r)) e
+    go : (o : Decision) → stopOf o true (r .next) (newestAt b r) ≡ check.Passed → not (eqb (stopBy b r o) 0) ≡ false
+    go (Refused m) e = absurd (omega (arith, ap checkNumber e, refusal-above m))
+    go (Accepted c) e = linked (eqb (r .next) (newestAt b r)) e
 
--- the refusal of a posting, by its decision
-pub decision-number : (b : Book) (r : Raw) → decisionNumber (decisionOf b r) ≡ postOf b r .reply .refusal
-unfolding decisionNumber postOf answerOf postingReplyOf
-decision-number b r = go (decisionOf b r)
+    by : (image : Bool) → stopOf (decisionOf (arrives image (b .run)) b (r .raw)) image (r .next) (newestAt b r) ≡ check.Passed →
+        image && not (eqb (recordRefusal b r) 0) ≡ false
+    by false e = refl
+    by true e = go (decisionOf Recorded b (r .raw)) e
+
+-- the refusal of an entry, by its decision
+pub decision-number : (w : Arrival) (b : Book) (r : Raw) → decisionNumber (decisionOf w b r) ≡ enterOf w b r .reply .refusal
+unfolding decisionNumber enterOf answerOf postingReplyOf
+decision-number w b r = go (decisionOf w b r)
   where
     go : (o : Decision) → decisionNumber o ≡ postingReplyOf (answerOf o (b .count + 1)) .refusal
     go (Refused n) = refl
@@ -98,9 +108,9 @@ rest-step s i h =
 pub replay-less : (n i : ℕ) → i < n → n - (i + 1) < n - i
 replay-less n i h = omega arith
 
--- the posting of a record that ends nothing
-pub replay-step : (image : Bool) (b next : Book) (s l m : List ℕ) (i n : ℕ) → i < length s / recordBytes → n ≡ postOf b (recordIn s i .raw) .reply .refusal →
-    next ≡ postOf b (recordIn s i .raw) .book → m ≡ set l i n → image && not (eqb (recordRefusal b (recordIn s i)) 0) ≡ false →
+-- a record that ends nothing
+pub replay-step : (image : Bool) (b next : Book) (s l m : List ℕ) (i n : ℕ) → i < length s / recordBytes → n ≡ comesIn image b (recordIn s i .raw) .reply .refusal →
+    next ≡ comesIn image b (recordIn s i .raw) .book → m ≡ set l i n → image && not (eqb (recordRefusal b (recordIn s i)) 0) ≡ false →
     (i + 1 ≤ length s / recordBytes) × (length m ≡ length l) × (replayOf image (restOf s i) b l i ≡ replayOf image (restOf s (i + 1)) next m (i + 1))
 unfolding replayOf
 replay-step image b next s l m i n h number posted marked on = (
@@ -110,7 +120,7 @@ replay-step image b next s l m i n h number posted marked on = (
 )
 
 -- the refusal that ends an image
-pub replay-stop : (image : Bool) (b : Book) (s l m : List ℕ) (i n stop : ℕ) → i < length s / recordBytes → n ≡ postOf b (recordIn s i .raw) .reply .refusal →
+pub replay-stop : (image : Bool) (b : Book) (s l m : List ℕ) (i n stop : ℕ) → i < length s / recordBytes → n ≡ comesIn image b (recordIn s i .raw) .reply .refusal →
     m ≡ set l i n → image ≡ true → stop ≡ recordRefusal b (recordIn s i) → 0 < stop →
     record { loaded = refusedLoad stop (oneMore (b .count)); results = m } ≡ replayOf image (restOf s i) b l i
 unfolding replayOf

@@ -7,7 +7,7 @@ use Rattle.entries.specs.declared.raw.Raw.{Raw}
 use Rattle.entries.specs.declared.refusals.Refusal.the-variants as no
 use Rattle.codec.specs.declared.Record.{Record}
 use Rattle.book.specs.Fresh.{freshBook}
-use Rattle.book.specs.Posting.{accountAt, postOf}
+use Rattle.book.specs.Posting.{accountAt, recordOf}
 use Rattle.book.specs.declared.Book.{Book}
 use Rattle.replays.specs.declared.Loaded.{Loaded}
 use Rattle.replays.specs.declared.LoadAnswer.{LoadAnswer}
@@ -34,14 +34,14 @@ acceptedLoad b = record { book = b; refusal = 0; faulty = 0 }
 abbrev pub refusedLoad : ℕ → ℕ → LoadedReply
 refusedLoad n i = record { book = freshBook; refusal = n; faulty = i }
 
--- the refusal of a record, or 0: by 1 to 16 or 24 to 26 as posted, and then
+-- the refusal of a record, or 0: by 1 to 16 or 24 to 26 as recorded, and then
 -- 20: a record's next index is not its account's previous entry
 unfoldable pub recordRefusal : Book → Record → ℕ
 recordRefusal b r =
-    let posted = postOf b (r .raw) .reply .refusal in
-    cond (eqb posted 0)
+    let recorded = recordOf b (r .raw) .reply .refusal in
+    cond (eqb recorded 0)
     (cond (eqb (r .next) (accountAt b (r .raw .account) .newest)) 0 (refusalNumber no.NextIndex))
-    posted
+    recorded
 
 abbrev pub rawIn : Record → Raw
 rawIn r = r .raw

@@ -1,5 +1,6 @@
-// The records of an image, or a run of entries, posted in turn: for a load and for a carry-over.
+// The records of an image, or a list of entries, which come in one after another: for a load and for a carry-over.
 use book::Book;
+use book::Run;
 use book::Search;
 use book::Window;
 use book::decision;
@@ -8,6 +9,7 @@ use changes::Decision;
 use changes::Found;
 use codec::RECORD;
 use codec::record_in;
+use entries::Arrival;
 use entries::Check;
 use entries::Refusal;
 use entries::one_more;
@@ -15,7 +17,7 @@ ghost use mathlib.Core.Path.{_≡_};
 ghost use lib.ListN.{set};
 ghost use Rattle.entries.specs.Refusals.{refusalNumber};
 ghost use Rattle.replays.specs.Loaded.{loadedReply, refusedLoad};
-ghost use Rattle.replays.specs.Replays.{stopOf, listedIn, replayOf};
+ghost use Rattle.replays.specs.Replays.{arrives, stopOf, listedIn, replayOf};
 
 pub enum LoadAnswer {
     Accepted,
@@ -38,8 +40,19 @@ pub fn refused(refusal: Refusal, record: u16) -> Loaded
     }
 }
 
-// What ends an image at a record: its refusal by 1 to 16 or 24 to 26 as it is posted, or by 20, where `newest` is its
-// account's previous entry. Nothing ends a run of entries.
+// How a record of an image comes in, or an entry of a list.
+fn arrival(image: bool, run: Run) -> Arrival
+    ensures { λ r. ⌜ r ≡ arrives image run ⌝ }
+{
+    if image {
+        Arrival::Recorded
+    } else {
+        run.arrival()
+    }
+}
+
+// What ends an image at a record: its refusal by 1 to 16 or 24 to 26 as it is recorded, or by 20, where `newest` is its
+// account's previous entry. Nothing ends a list of entries.
 fn stop(decision: Decision, image: bool, next: u16, newest: u16) -> Check
     ensures { λ r. ⌜ r ≡ stopOf decision image next newest ⌝ }
 {
@@ -61,8 +74,8 @@ fn put_result(results: &mut [u8], i: usize, result: u8)
     }
 }
 
-// Posts the records of an image, or a run of entries, in turn, and writes the refusal number of each posting, or 0, at its place in
-// the results, where the list has it. The first record of an image that is refused ends it. The postings are made in place: a call
+// Records those of an image, or posts a list of entries, in turn, and writes the refusal number of each, or 0, at its place in
+// the results, where the list has it. The first record of an image that is refused ends it. The entries come in in place: a call
 // on the book would copy it.
 pub fn replay(mut book: Book, records: &[u8], image: bool, results: &mut [u8]) -> Loaded
     ensures { λ r. ⌜ (record { loaded = loadedReply r; results = now (results .exit) }) ≡ replayOf image (listedIn (now (records .entry))) book (now (results .entry)) 0 ⌝ }
@@ -91,7 +104,18 @@ pub fn replay(mut book: Book, records: &[u8], image: bool, results: &mut [u8]) -
             let passed = book.entries[j];
             window = window.past(passed);
         }
-        let decision = decision(raw, count, last, account, search, entry, window.paid);
+        let run = book.run;
+        let arrival = arrival(image, run);
+        let decision = decision(
+            raw,
+            arrival,
+            count,
+            last,
+            account,
+            search,
+            entry,
+            window.paid,
+        );
         let number = one_more(count);
         put_result(results, i, decision.refusal());
         i += 1;

@@ -14,7 +14,7 @@ use Rattle.entries.specs.Data.{metres}
 use Rattle.entries.specs.declared.raw.Raw.{Raw}
 use Rattle.entries.specs.declared.kinds.Kind.the-variants as kind
 use Rattle.entries.proofs.Ranges.{ranged}
-use Rattle.rules.specs.Formulas.{refund, billedOf, refundOf, interestOf, Plain, PlainEntries, RoundedNearest, RefundFloor, GivenBackFloor}
+use Rattle.rules.specs.Formulas.{refund, billedOf, refundOf, interestOf, lateAmountOf, runRateMost, arrearsMost, Plain, PlainEntries, RoundedNearest, RefundFloor, GivenBackFloor}
 
 -- a product of two numbers within bounds whose product fits
 fits : (m n a b : ℕ) → a ≤ m → b ≤ n → m * n ≤ most → min (a * b) most ≡ a * b
@@ -23,7 +23,7 @@ fits m n a b ha hb h =
     min-eq-left (omega arith)
 
 pub plain : Plain
-unfolding billedOf refundOf interestOf
+unfolding billedOf refundOf interestOf lateAmountOf
 plain =
     record {
       bill = λ charge served period hc hs. rw (fits amountMost 255 charge served hc hs (omega arith)) refl;
@@ -31,6 +31,7 @@ plain =
       deposit-return = λ deposit rate days hd hr ht.
           let p : deposit * rate ≤ amountMost * rateMost = mul-le-mul {n₁ = deposit} {m₁ = rate} {n₂ = amountMost} {m₂ = rateMost} hd hr in
           rw (fits amountMost rateMost deposit rate hd hr (omega arith), fits (amountMost * rateMost) lastDay (deposit * rate) days p ht (omega arith)) refl;
+      late-charge = λ noted rate hn hr. rw (fits arrearsMost runRateMost noted rate hn hr (omega arith)) refl;
     }
 
 served-fits : (r : Raw) → inRangeOf r kind.Bill ≡ true → r .b ≤ 255
@@ -60,6 +61,7 @@ rounded-nearest =
     record {
       bill = λ charge served period h. rounds (charge * served) period h;
       deposit-return = λ deposit rate t. rounds (deposit * rate * t) 3650000 (omega arith);
+      late-charge = λ noted rate. (_, rounds (noted * rate) 10000 (omega arith), refl);
     }
 
 pub refund-floor : RefundFloor

@@ -1,4 +1,5 @@
-// The formulas: a bill's billed amount, a contribution's refund, a deposit's interest, a guarantee's reduction.
+// The formulas: a bill's billed amount, a contribution's refund, a deposit's interest, a guarantee's reduction, a late charge's amount.
+use entries::Kind;
 use entries::Particulars;
 use measures::Cents;
 use measures::Metres;
@@ -6,7 +7,7 @@ use measures::product;
 use measures::quotient;
 use measures::smaller;
 ghost use mathlib.Core.Path.{_≡_};
-ghost use Rattle.rules.specs.Formulas.{billedOf, refundOf, interestOf, givenBackOf};
+ghost use Rattle.rules.specs.Formulas.{billedOf, refundOf, interestOf, givenBackOf, lateAmountOf};
 
 // The charge for the full period, for the days served of it.
 pub fn billed(charge: Cents, served: u8, period: u16) -> Cents
@@ -43,4 +44,17 @@ pub fn given_back(held: Cents, paid: Cents) -> Cents
     ensures { λ r. ⌜ r ≡ givenBackOf held paid ⌝ }
 {
     Cents(smaller(held.0, paid.0 / 10))
+}
+
+// The hundredths of a percent in the whole.
+const RATE_WHOLE: u64 = 10000;
+
+// The amount of a late charge on noted arrears at a rate in hundredths of a percent, at most the largest amount of an entry.
+pub fn late_amount(noted: Cents, rate: u16) -> Cents
+    ensures { λ r. ⌜ r ≡ lateAmountOf noted rate ⌝ }
+{
+    noted
+        .times(rate as u64)
+        .rounded(RATE_WHOLE)
+        .least(Cents(Kind::AMOUNT_MOST as u64))
 }

@@ -15,5 +15,6 @@ pub use checks::check_own;
 pub use formulas::billed;
 pub use formulas::given_back;
 pub use formulas::interest;
+pub use formulas::late_amount;
 pub use formulas::refund;
 pub use windows::paid_within;

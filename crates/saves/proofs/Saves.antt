@@ -11,16 +11,20 @@ use lib.Dec.{ltb}
 use borrow.Author.Tests.{lt-ltb, le-ltb}
 use Rattle.buffers.specs.Buffers.{writtenAt}
 use Rattle.buffers.proofs.Buffers.{written, Holds, holds-none, holds-here, holds-more, holds-then, holds-length, holds-all}
-use Rattle.entries.specs.Refusals.{refusalNumber}
+use Rattle.entries.specs.Refusals.{refusalNumber, refuseIf, decidedOf}
+use Rattle.entries.specs.declared.refusals.Check.{Check}
+use Rattle.entries.specs.declared.refusals.Check.the-variants as check
 use Rattle.entries.specs.declared.refusals.Refusal.the-variants as no
 use Rattle.entries.specs.declared.data.Entry.{Entry}
+use Rattle.entries.proofs.RefusalsLaws.{refusal-above, refused-stays}
 use Rattle.codec.specs.Records.{recordBytes, encodeRecord, encodeAll}
 use Rattle.codec.specs.Headers.{headerOf}
 use Rattle.codec.proofs.Records.{length-encode, length-encodeAll, encode-append}
 use Rattle.codec.proofs.Headers.{length-header}
 use Rattle.book.specs.Fresh.{entriesMost}
+use Rattle.book.specs.Runs.{isOpen}
 use Rattle.book.specs.declared.Book.{Book}
-use Rattle.saves.specs.Saves.{SaveReply, entryRecord, entryCount, recordsOf, bytesOf, imageOf, refusedSave, acceptedSave, saveOf, savedIn}
+use Rattle.saves.specs.Saves.{SaveReply, entryRecord, entryCount, recordsOf, bytesOf, imageOf, refusedSave, acceptedSave, checkSaveOf, saveOf, savedIn}
 
 pub length-records : (b : Book) (n : ℕ) → n ≤ length (b .entries) → length (recordsOf b n) ≡ n
 length-records b n h = length-map (take n (b .entries)) entryRecord ∙ length-take-le n (b .entries) h
@@ -81,43 +85,68 @@ length-image b h =
       length-records b (entryCount b) (omega arith),
     )
 
+-- a run is open
+check-in-run : (b : Book) (l : List ℕ) → isOpen (b .run) ≡ true → checkSaveOf b l ≡ check.Refused no.SaveInRun
+unfolding checkSaveOf refuseIf
+check-in-run b l h = rw h (refused-stays no.SaveInRun no.BufferShort (ltb (length l) (bytesOf b)))
+
+pub save-in-run : (b : Book) (l : List ℕ) → isOpen (b .run) ≡ true → (saveOf b l ≡ refusedSave 29) × (savedIn b l ≡ l)
+unfolding saveOf savedIn decidedOf
+save-in-run b l h = (rw (check-in-run b l h) refl, rw (check-in-run b l h) refl)
+
+-- none is: the buffer's length decides
+pub save-no-run : (b : Book) (l : List ℕ) → isOpen (b .run) ≡ false →
+    (saveOf b l ≡ cond (ltb (length l) (bytesOf b)) (refusedSave 21) (acceptedSave (bytesOf b))) ×
+    (savedIn b l ≡ cond (ltb (length l) (bytesOf b)) l (imageOf b ++ drop (bytesOf b) l))
+unfolding saveOf savedIn decidedOf checkSaveOf refuseIf
+save-no-run b l none = rw none (by (ltb (length l) (bytesOf b)))
+  where
+    by : (t : Bool) →
+        (decidedOf (refuseIf check.Passed t no.BufferShort) (λ n. refusedSave (refusalNumber n)) (acceptedSave (bytesOf b)) ≡ cond t (refusedSave 21) (acceptedSave (bytesOf b))) ×
+        (decidedOf (refuseIf check.Passed t no.BufferShort) (λ n. l) (imageOf b ++ drop (bytesOf b) l) ≡ cond t l (imageOf b ++ drop (bytesOf b) l))
+    by true = (refl, refl)
+    by false = (refl, refl)
+
 -- there is no room
-pub save-refused : (b : Book) (l : List ℕ) → length l < bytesOf b →
-    (refusedSave (refusalNumber no.BufferShort) ≡ saveOf b l) × (l ≡ savedIn b l)
-unfolding saveOf savedIn
-save-refused b l h = (rw (lt-ltb _ _ h), rw (lt-ltb _ _ h))
+pub save-short : (b : Book) (l : List ℕ) → isOpen (b .run) ≡ false → length l < bytesOf b → (saveOf b l ≡ refusedSave 21) × (savedIn b l ≡ l)
+save-short b l none h =
+    let by = save-no-run b l none in
+    (rw (by .0, lt-ltb _ _ h) refl, rw (by .1, lt-ltb _ _ h) refl)
 
 -- there is: the header is written, and then the records
-pub save-done : (b : Book) (l p m : List ℕ) (n next at : ℕ) → length (b .entries) ≡ entriesMost → n ≡ entryCount b → recordBytes * (n + 1) ≤ length l →
+pub save-done : (b : Book) (l p m : List ℕ) (n next at : ℕ) → isOpen (b .run) ≡ false → length (b .entries) ≡ entriesMost → n ≡ entryCount b →
+    recordBytes * (n + 1) ≤ length l →
     length p ≡ length l → written p next ≡ writtenAt (headerOf n) 0 l → Holds (begunOf b p n) p m at →
     (acceptedSave (recordBytes * (n + 1)) ≡ saveOf b l) × (m ≡ savedIn b l)
-unfolding saveOf savedIn imageOf
-save-done b l p m n next at k e h len put held =
+unfolding imageOf
+save-done b l p m n next at none k e h len put held =
+    let by = save-no-run b l none in
     let big : ltb (length l) (bytesOf b) ≡ false = le-ltb (length l) (bytesOf b) (omega arith) in
     let first = header-put l p n next (omega arith) len put in
     let header = subst (λ (i : ℕ). Holds (headerOf n) l p i) (first .1) (first .0) in
     let all = holds-then (headerOf n) (encodeAll (recordsOf b n)) l p m recordBytes at header held in
     let end : at ≡ bytesOf b = holds-length (begunOf b p n) p m at held ∙ length-begun b p n (omega arith) (omega arith) ∙ ap (λ (i : ℕ). recordBytes * (i + 1)) e in (
-      rw (big, e),
-      rw big (holds-all (headerOf n ++ encodeAll (recordsOf b n)) l m at all ∙
+      rw (by .0, big, e),
+      rw (by .1, big) (holds-all (headerOf n ++ encodeAll (recordsOf b n)) l m at all ∙
           ap (λ (i : ℕ). (headerOf i ++ encodeAll (recordsOf b i)) ++ drop at l) e ∙ ap (λ (i : ℕ). imageOf b ++ drop i l) end),
     )
 
 -- WHAT A SAVE'S ANSWER TELLS
 
 pub save-size : (b : Book) (l : List ℕ) (n : ℕ) → acceptedSave n ≡ saveOf b l → n ≡ bytesOf b
-unfolding saveOf
-save-size b l n e = by (ltb (length l) (bytesOf b)) e
+unfolding saveOf decidedOf
+save-size b l n e = by (checkSaveOf b l) e
   where
-    by : (t : Bool) → acceptedSave n ≡ cond t (refusedSave (refusalNumber no.BufferShort)) (acceptedSave (bytesOf b)) → n ≡ bytesOf b
-    by true h = let z : _≡_ {A = ℕ} 0 21 = ap (λ (q : SaveReply). q .refusal) h in absurd (omega arith)
-    by false h = ap (λ (q : SaveReply). q .bytes) h
+    by : (c : Check) → acceptedSave n ≡ decidedOf c (λ m. refusedSave (refusalNumber m)) (acceptedSave (bytesOf b)) → n ≡ bytesOf b
+    by check.Passed h = ap (λ (q : SaveReply). q .bytes) h
+    by (check.Refused m) h = let z : 0 ≡ refusalNumber m = ap (λ (q : SaveReply). q .refusal) h in absurd (omega (arith, refusal-above m))
 
-pub save-short : (b : Book) (l : List ℕ) (k : ℕ) → 0 < k → refusedSave k ≡ saveOf b l → ltb (length l) (bytesOf b) ≡ true
-unfolding saveOf
-save-short b l k above e = by (ltb (length l) (bytesOf b)) refl e
+-- a refused save leaves the buffer
+pub save-left : (b : Book) (l : List ℕ) (k : ℕ) → 0 < k → refusedSave k ≡ saveOf b l → savedIn b l ≡ l
+unfolding saveOf savedIn decidedOf
+save-left b l k above e = by (checkSaveOf b l) e
   where
-    by : (t : Bool) → ltb (length l) (bytesOf b) ≡ t →
-        refusedSave k ≡ cond t (refusedSave (refusalNumber no.BufferShort)) (acceptedSave (bytesOf b)) → ltb (length l) (bytesOf b) ≡ true
-    by true p h = p
-    by false p h = let z : k ≡ 0 = ap (λ (q : SaveReply). q .refusal) h in absurd (omega arith)
+    by : (c : Check) → refusedSave k ≡ decidedOf c (λ m. refusedSave (refusalNumber m)) (acceptedSave (bytesOf b)) →
+        decidedOf c (λ m. l) (imageOf b ++ drop (bytesOf b) l) ≡ l
+    by check.Passed h = let z : k ≡ 0 = ap (λ (q : SaveReply). q .refusal) h in absurd (omega arith)
+    by (check.Refused m) h = refl

@@ -1,16 +1,18 @@
 -- A save: the entries as they were given, recovered from the book's, and their image.
 use Prim.Native.Nat.{ℕ, _+_, _*_, min}
-use mathlib.Core.Bool.{cond}
-use mathlib.Core.List.{List, _++_, map}
+use mathlib.Core.List.{List, [], _∷_, _++_, map}
 use lib.ListN.{length, take, drop}
 use lib.Dec.{ltb}
-use Rattle.entries.specs.Refusals.{refusalNumber}
+use Rattle.entries.specs.Refusals.{refusalNumber, Row, _⇒_, checkRows, decidedOf}
+use Rattle.entries.specs.declared.refusals.Check.{Check}
+use Rattle.entries.specs.declared.refusals.Check.the-variants as check
 use Rattle.entries.specs.declared.refusals.Refusal.the-variants as no
 use Rattle.entries.specs.declared.data.Entry.{Entry}
 use Rattle.codec.specs.Records.{recordBytes, encodeAll}
 use Rattle.codec.specs.Headers.{headerOf}
 use Rattle.codec.specs.declared.Record.{Record}
 use Rattle.book.specs.Fresh.{entriesMost}
+use Rattle.book.specs.Runs.{isOpen}
 use Rattle.book.specs.declared.Book.{Book}
 use Rattle.saves.specs.declared.SaveAnswer.{SaveAnswer}
 use Rattle.saves.specs.declared.SaveAnswer.the-variants.{Refused, Length}
@@ -21,7 +23,7 @@ use Rattle.entries.specs.declared.raw.Raw.{Raw}
 use Rattle.entries.specs.declared.kinds.Kind.{Kind}
 use Rattle.entries.specs.declared.kinds.Kind.the-variants as kind
 use Rattle.entries.specs.declared.data.Data.{Data}
-use Rattle.entries.specs.declared.data.Data.the-variants.{Unused, Contribution, AddedCustomer, Bill, Payment, Deposit, DepositReturn, Expiry, Correction, Guarantee, Reduction, Retention}
+use Rattle.entries.specs.declared.data.Data.the-variants.{Unused, Contribution, AddedCustomer, Bill, Payment, Deposit, DepositReturn, Expiry, Correction, Guarantee, Reduction, Retention, LateCharge}
 
 -- an amount in 32 bits; no entry that was accepted has one that does not fit
 abbrev pub narrow : Cents → ℕ
@@ -58,6 +60,7 @@ rawWith e (Correction namedNode namedSerial amount) = rawFrom kind.Correction e 
 rawWith e (Guarantee closed reduced amount held) = rawFrom kind.Guarantee e amount 0 0 0 0
 rawWith e (Reduction namedNode namedSerial) = rawFrom kind.Reduction e (cents 0) namedSerial 0 0 namedNode
 rawWith e (Retention namedNode namedSerial) = rawFrom kind.Retention e (cents 0) namedSerial 0 0 namedNode
+rawWith e (LateCharge amount) = rawFrom kind.LateCharge e amount 0 0 0 0
 
 unfoldable pub rawOf : Entry → Raw
 rawOf e = rawWith e (e .«data»)
@@ -95,10 +98,16 @@ unfoldable pub saveReplyOf : SaveAnswer → SaveReply
 saveReplyOf (Refused n) = refusedSave (refusalNumber n)
 saveReplyOf (Length n) = acceptedSave n
 
--- 21: the buffer is shorter than the image
-unfoldable pub saveOf : Book → List ℕ → SaveReply
-saveOf b buf = cond (ltb (length buf) (bytesOf b)) (refusedSave (refusalNumber no.BufferShort)) (acceptedSave (bytesOf b))
+-- 29: a run is open; then 21: the buffer is shorter than the image
+abbrev pub saveRows : Book → List ℕ → List Row
+saveRows b buf = (isOpen (b .run) ⇒ no.SaveInRun) ∷ (ltb (length buf) (bytesOf b) ⇒ no.BufferShort) ∷ []
 
--- it is untouched then; else the image is written over its start, and no other byte is touched
+unfoldable pub checkSaveOf : Book → List ℕ → Check
+checkSaveOf b buf = checkRows check.Passed (saveRows b buf)
+
+unfoldable pub saveOf : Book → List ℕ → SaveReply
+saveOf b buf = decidedOf (checkSaveOf b buf) (λ n. refusedSave (refusalNumber n)) (acceptedSave (bytesOf b))
+
+-- a refused save leaves the buffer; else the image is written over its start, and no other byte is touched
 unfoldable pub savedIn : Book → List ℕ → List ℕ
-savedIn b buf = cond (ltb (length buf) (bytesOf b)) buf (imageOf b ++ drop (bytesOf b) buf)
+savedIn b buf = decidedOf (checkSaveOf b buf) (λ n. buf) (imageOf b ++ drop (bytesOf b) buf)

@@ -112,6 +112,7 @@ pub fn raw_of(entry: Entry) -> Raw
         Data::Guarantee { amount, .. } => raw_from(Kind::Guarantee, entry, amount, 0, 0, 0, 0),
         Data::Reduction(node, serial) => naming(Kind::Reduction, entry, Cents(0), node, serial),
         Data::Retention(node, serial) => naming(Kind::Retention, entry, Cents(0), node, serial),
+        Data::LateCharge(amount) => raw_from(Kind::LateCharge, entry, amount, 0, 0, 0, 0),
     }
 }
 
@@ -123,10 +124,14 @@ pub fn entry_count(count: u16) -> u16
     if count < most { count } else { most }
 }
 
-// Writes the book's image at the start of a buffer that has room for it (21).
+// Writes the image of a book that has no run open (29) at the start of a buffer that has room for it (21).
 pub fn save(book: Book, buf: &mut [u8]) -> SaveAnswer
     ensures { λ r. ⌜ (saveReplyOf r ≡ saveOf book (now (buf .entry))) × (now (buf .exit) ≡ savedIn book (now (buf .entry))) ⌝ }
 {
+    let run = book.run;
+    if run.is_open() {
+        return SaveAnswer::Refused(Refusal::SaveInRun);
+    }
     let entry_count = entry_count(book.count);
     let count = entry_count as usize;
     let total = RECORD * (count + 1);

@@ -76,6 +76,8 @@ fn fits(letter: u8, numbers: &[u64], count: usize, full: bool) -> bool {
         b'q' => exactly(numbers, count, &[U16, U8, U32]),
         b'g' => exactly(numbers, count, &[U16, BUFFER as u64]),
         b'w' | b'l' => exactly(numbers, count, &[BUFFER as u64]),
+        b'r' => exactly(numbers, count, &[U8, U16, U16]),
+        b't' | b'c' => count == 0,
         b'x' => is_change(numbers, count),
         b'd' => is_show(numbers, count),
         _ => false,

@@ -1,6 +1,15 @@
-//! Refusals 1 to 16 and 24 to 26, in checking order.
+//! Refusals 1 to 16 and 24 to 27, in checking order.
 
 use super::*;
+
+/// How an entry comes in.
+#[derive(Clone, Copy, Debug, PartialEq, Eq)]
+pub enum Incoming {
+    /// Posted or carried over.
+    Posted,
+    /// A record of an image, or a run's late charge.
+    Recorded,
+}
 
 /// An entry that no refusal stops: its kind, with the place of the entry
 /// that it names.
@@ -16,6 +25,7 @@ pub(super) enum Accepted {
     Guarantee,
     Reduction(usize),
     Retention(usize),
+    LateCharge,
 }
 
 type Checked = Result<Accepted, u8>;
@@ -40,8 +50,12 @@ pub(super) fn is_node(node: u8) -> bool {
 }
 
 /// Refusals 1 to 5: what the entry's own fields decide.
-fn check_fields(raw: &Raw) -> Result<(), u8> {
-    refuse(!(CONTRIBUTION..=LAST_KIND).contains(&raw.kind), 1)?;
+fn check_fields(raw: &Raw, incoming: Incoming) -> Result<(), u8> {
+    let last_kind = match incoming {
+        Incoming::Posted => LAST_POSTED_KIND,
+        Incoming::Recorded => LAST_KIND,
+    };
+    refuse(!(CONTRIBUTION..=last_kind).contains(&raw.kind), 1)?;
     refuse(!is_node(raw.node), 2)?;
     refuse(!is_account(raw.account), 3)?;
     refuse(raw.day > LAST_DAY, 4)?;
@@ -71,6 +85,7 @@ fn in_range(raw: &Raw) -> bool {
         DEPOSIT_RETURN => no_amount && not_named && no_a && no_b,
         EXPIRY | REDUCTION | RETENTION => no_amount && named && no_a && no_b,
         CORRECTION => raw.amount <= AMOUNT_MOST && named && no_a && no_b,
+        LATE_CHARGE => raw.amount <= AMOUNT_MOST && not_named && no_a && no_b,
         _ => false,
     }
 }
@@ -81,16 +96,16 @@ fn has_ended(entry: &Entry, years: u16, day: u16) -> bool {
 }
 
 impl Book {
-    /// What a posting of the entry is refused by, or 0.
-    pub fn refusal(&self, raw: &Raw) -> u8 {
-        self.check(raw).err().unwrap_or(0)
+    /// What the entry is refused by, or 0.
+    pub fn refusal(&self, raw: &Raw, incoming: Incoming) -> u8 {
+        self.check(raw, incoming).err().unwrap_or(0)
     }
 
-    /// The refusals of a posting.
-    pub(super) fn check(&self, raw: &Raw) -> Checked {
-        check_fields(raw)?;
-        let last = self.last_serials[usize::from(raw.node) - 1];
-        refuse(raw.serial <= last, 6)?;
+    /// The refusals of an entry.
+    pub(super) fn check(&self, raw: &Raw, incoming: Incoming) -> Checked {
+        check_fields(raw, incoming)?;
+        refuse(raw.serial <= self.last_serial(raw.node), 6)?;
+        refuse(raw.kind == CORRECTION && self.run.is_some(), 27)?;
         refuse(self.count == ENTRIES, 7)?;
         match raw.kind {
             CONTRIBUTION => Ok(Accepted::Contribution),
@@ -103,7 +118,8 @@ impl Book {
             CORRECTION => self.check_correction(raw),
             GUARANTEE => self.check_guarantee(raw),
             REDUCTION => self.check_reduction(raw),
-            _ => self.check_retention(raw),
+            RETENTION => self.check_retention(raw),
+            _ => Ok(Accepted::LateCharge),
         }
     }
 

@@ -6,9 +6,13 @@ use super::*;
 const MARK: &[u8; 4] = b"CHB1";
 
 impl Book {
-    /// Writes the image and gives refusal 0 and its length. Refused by 21
-    /// where the buffer is shorter; the buffer is then untouched.
+    /// Writes the image and gives refusal 0 and its length. Refused by 29
+    /// during a run, then by 21 where the buffer is shorter; the buffer is then
+    /// untouched.
     pub fn save(&self, buffer: &mut [u8]) -> (u8, usize) {
+        if self.run.is_some() {
+            return (29, 0);
+        }
         let length = RECORD * (self.count + 1);
         if buffer.len() < length {
             return (21, 0);
@@ -43,12 +47,12 @@ impl Book {
 
     fn read_record(&mut self, record: &[u8]) -> Result<(), u8> {
         let (raw, next) = parse_record(record);
-        let reply = self.post(&raw);
+        let reply = self.record(&raw);
         self.check_record(reply, next)
     }
 
-    /// The record posted last: as its posting was answered, then its next
-    /// index by 20.
+    /// The record taken in last: as it was answered, then its next index by
+    /// 20.
     pub(crate) fn check_record(&self, reply: PostingReply, next: u16) -> Result<(), u8> {
         if reply.refusal != 0 {
             return Err(reply.refusal);

@@ -6,7 +6,7 @@ use std::cmp::Ordering;
 
 /// The quotient to the nearest whole number, an exact half to the even one. The
 /// divisor is not 0.
-fn rounded(dividend: u64, divisor: u64) -> u64 {
+pub(super) fn rounded(dividend: u64, divisor: u64) -> u64 {
     let below = dividend / divisor;
     let rest = dividend % divisor;
     match (2 * rest).cmp(&divisor) {
@@ -29,7 +29,16 @@ fn interest(deposit: u64, rate: u64, days: u64) -> u64 {
 impl Book {
     /// Posts one entry. A refused entry leaves the book unchanged.
     pub fn post(&mut self, raw: &Raw) -> PostingReply {
-        match self.check(raw) {
+        self.take(raw, Incoming::Posted)
+    }
+
+    /// Takes in a record of an image, or a run's late charge, as a posting does.
+    pub fn record(&mut self, raw: &Raw) -> PostingReply {
+        self.take(raw, Incoming::Recorded)
+    }
+
+    fn take(&mut self, raw: &Raw, incoming: Incoming) -> PostingReply {
+        match self.check(raw, incoming) {
             Err(refusal) => PostingReply::refused(refusal),
             Ok(accepted) => {
                 let number = self.append(raw);
@@ -66,6 +75,7 @@ impl Book {
             Accepted::Guarantee => self.guarantee(raw),
             Accepted::Reduction(place) => self.reduction(raw, place),
             Accepted::Retention(place) => self.retention(raw, place),
+            Accepted::LateCharge => self.late_charge(raw),
         }
     }
 
@@ -85,9 +95,7 @@ impl Book {
 
     fn bill(&mut self, raw: &Raw) -> PostingReply {
         let billed = billed(raw.amount.into(), raw.a.into(), raw.b.into());
-        self.appended().standing = billed;
-        self.account_mut(raw.account).charge(billed);
-        PostingReply::default()
+        self.charge_standing(raw.account, billed)
     }
 
     fn payment(&mut self, raw: &Raw) -> PostingReply {
@@ -175,6 +183,17 @@ impl Book {
     fn retention(&mut self, raw: &Raw, place: usize) -> PostingReply {
         self.account_mut(raw.account).guarantee_open = false;
         self.retain(place)
+    }
+
+    fn late_charge(&mut self, raw: &Raw) -> PostingReply {
+        self.charge_standing(raw.account, raw.amount.into())
+    }
+
+    /// Charges the amount, which stands for the entry appended last.
+    fn charge_standing(&mut self, account: u16, amount: u64) -> PostingReply {
+        self.appended().standing = amount;
+        self.account_mut(account).charge(amount);
+        PostingReply::default()
     }
 
     /// Gives back up to `amount` of what the entry holds: it is credited, and

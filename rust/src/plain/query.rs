@@ -14,7 +14,7 @@ pub struct StatementReply {
     pub held: u64,
     /// The smaller of the allowance and the chain's length.
     pub links_read: u64,
-    /// Sum of standing bills among the entries read.
+    /// Sum of standing bills and late charges among the entries read.
     pub bills: u64,
     /// Sum of standing payments among the entries read.
     pub payments: u64,
@@ -77,7 +77,7 @@ impl Book {
             }
             reply.links_read += 1;
             match entry.raw.kind {
-                BILL => reply.bills += entry.standing,
+                BILL | LATE_CHARGE => reply.bills += entry.standing,
                 PAYMENT => reply.payments += entry.standing,
                 _ => {}
             }

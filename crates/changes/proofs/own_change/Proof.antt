@@ -58,14 +58,28 @@ returns-6 : tie.Need-returns-6
 unfolding ownChangeOf
 returns-6 c =
     simp (
+      c .late-charge .ensures,
+      sym (c .before .before .is6 .ensures) ∙ c .before .if6 .taken,
+      sym (c .before .before .before .before .is5 .ensures) ∙ c .before .before .before .if5 .left,
+      sym (c .before .before .before .before .before .before .is4 .ensures) ∙ c .before .before .before .before .before .if4 .left,
+      sym (c .before .before .before .before .before .before .before .before .is3 .ensures) ∙ c .before .before .before .before .before .before .before .if3 .left,
+      sym (c .before .before .before .before .before .before .before .before .before .before .is2 .ensures) ∙ c .before .before .before .before .before .before .before .before .before .if2 .left,
+      sym (c .before .before .before .before .before .before .before .before .before .before .before .before .is .ensures) ∙ c .before .before .before .before .before .before .before .before .before .before .before .if1 .left,
+    )
+
+returns-7 : tie.Need-returns-7
+unfolding ownChangeOf
+returns-7 c =
+    simp (
       c .deposit-return .ensures,
-      sym (c .before .before .is5 .ensures) ∙ c .before .if5 .left,
-      sym (c .before .before .before .before .is4 .ensures) ∙ c .before .before .before .if4 .left,
-      sym (c .before .before .before .before .before .before .is3 .ensures) ∙ c .before .before .before .before .before .if3 .left,
-      sym (c .before .before .before .before .before .before .before .before .is2 .ensures) ∙ c .before .before .before .before .before .before .before .if2 .left,
-      sym (c .before .before .before .before .before .before .before .before .before .before .is .ensures) ∙ c .before .before .before .before .before .before .before .before .before .if1 .left,
+      sym (c .before .before .is6 .ensures) ∙ c .before .if6 .left,
+      sym (c .before .before .before .before .is5 .ensures) ∙ c .before .before .before .if5 .left,
+      sym (c .before .before .before .before .before .before .is4 .ensures) ∙ c .before .before .before .before .before .if4 .left,
+      sym (c .before .before .before .before .before .before .before .before .is3 .ensures) ∙ c .before .before .before .before .before .before .before .if3 .left,
+      sym (c .before .before .before .before .before .before .before .before .before .before .is2 .ensures) ∙ c .before .before .before .before .before .before .before .before .before .if2 .left,
+      sym (c .before .before .before .before .before .before .before .before .before .before .before .before .is .ensures) ∙ c .before .before .before .before .before .before .before .before .before .before .before .if1 .left,
     )
 
 pub own-change-spec : {M : Type 1} → statement M
 own-change-spec =
-    tie.close (tie.spec (λ c κs. search needs) (λ c κs. search needs) returns (λ c κs. search needs) (λ c κs. search needs) returns-2 (λ c κs. search needs) (λ c κs. search needs) returns-3 (λ c κs. search needs) (λ c κs. search needs) returns-4 (λ c κs. search needs) (λ c κs. search needs) returns-5 (λ c κs. search needs) returns-6)
+    tie.close (tie.spec (λ c κs. search needs) (λ c κs. search needs) returns (λ c κs. search needs) (λ c κs. search needs) returns-2 (λ c κs. search needs) (λ c κs. search needs) returns-3 (λ c κs. search needs) (λ c κs. search needs) returns-4 (λ c κs. search needs) (λ c κs. search needs) returns-5 (λ c κs. search needs) (λ c κs. search needs) returns-6 (λ c κs. search needs) returns-7)

@@ -13,7 +13,7 @@ returns c =
     let c₈ = c .before .before .before .before .before .before .before .before in
     let a = c₈ .before .before .before .before .before .before .before .args in
     let accepted = sym (c₈ .before .before .load .ensures) ∙ ap (loadedWith (c₈ .before .before .load .result .book)) (c₈ .enum-told .given .1) in
-    c .before .before .before .before .carry-into .ensures ∙ ap (λ l. carryImage l (now (a .run)) (now (a .results)) (now (a .output))) (sym accepted)
+    c .before .before .before .before .carry-into .ensures ∙ ap (λ l. carryImage l (now (a .entries)) (now (a .results)) (now (a .output))) (sym accepted)
 
 returns-2 : tie.Need-returns-2
 unfolding loadedReply
@@ -22,9 +22,9 @@ returns-2 c =
     let a = c₈ .before .args in
     let refused = sym (c .before .before .before .before .load .ensures) ∙ ap (loadedWith (c .before .before .before .before .load .result .book))
     (c .before .before .answer .given .1) in
-    rw (c .refused .ensures) (sym (ap (λ l. carryImage l (now (a .run)) (now (a .results)) (now (a .output))) refused ∙
+    rw (c .refused .ensures) (sym (ap (λ l. carryImage l (now (a .entries)) (now (a .results)) (now (a .output))) refused ∙
     carry-image-refused (c .before .before .before .before .load .result .book) (c .before .before .answer .given .0 .0)
-    (c .before .before .answer .given .0 .1 .0) (now (a .run)) (now (a .results)) (now (a .output))))
+    (c .before .before .answer .given .0 .1 .0) (now (a .entries)) (now (a .results)) (now (a .output))))
 
 pub carry-image-spec : {M : Type 1} → statement M
 carry-image-spec =

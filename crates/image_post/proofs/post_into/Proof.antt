@@ -4,7 +4,7 @@ use mathlib.Core.Path.{sym, ap, _∙_}
 use denote.Ref.{now}
 use Rattle.rules.specs.Answers.{postingReplyOf}
 use Rattle.saves.specs.Saves.{saveReplyOf}
-use Rattle.image_post.proofs.Postings.{post-17, post-refused, post-accepted, post-short}
+use Rattle.image_post.proofs.Postings.{post-17, post-refused, post-accepted, post-unsaved}
 use Rattle.image_post.proofs.post_into.Statement.{statement}
 use Rattle.image_post.proofs.post_into.Tie as tie
 
@@ -53,7 +53,7 @@ returns-4 c =
     let none = sym (ap (λ x. x .refusal) reply) ∙ ap (λ x. postingReplyOf x .refusal) (c₈ .before .enum-told .given .1) in
     let next = ap (λ x. x .book) (c₈ .before .before .before .post .ensures) ∙ ap (λ r. postOf (a .book) (r .raw) .book)
     (c₈ .before .before .before .before .before .record-in .ensures) in
-    rw (c .refused3 .ensures) (post-short (a .book) (c₈ .before .before .before .post .result .book) (now (a .entry)) (now (a .output)) _
+    rw (c .refused3 .ensures) (post-unsaved (a .book) (c₈ .before .before .before .post .result .book) (now (a .entry)) (now (a .output)) _
     (c .before .before .refusal .given .0 .0)
     (c₈ .before .before .before .before .before .before .if1 .left) none next
     (sym (ap saveReplyOf (c .before .before .refusal .given .1)) ∙ c .before .before .before .before .before .before .save .ensures .0)

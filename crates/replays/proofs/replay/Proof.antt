@@ -16,6 +16,7 @@ use Rattle.changes.specs.Changes.{decisionNumber}
 use Rattle.changes.specs.declared.Decision.the-variants.{Accepted}
 use Rattle.changes.specs.declared.Found.{Found}
 use Rattle.changes.specs.declared.Change.{Change}
+use Rattle.entries.specs.declared.arrivals.Arrival.{Arrival}
 use Rattle.entries.specs.declared.data.Entry.{Entry}
 use Rattle.codec.specs.declared.Record.{Record}
 use Rattle.book.specs.Chain.{walksOf}
@@ -24,13 +25,13 @@ use Rattle.book.specs.Window.{onwardOf}
 use Rattle.book.specs.declared.Book.{Book}
 use Rattle.codec.specs.Records.{recordBytes, recordIn}
 use Rattle.book.specs.Fresh.{accountsMost, entriesMost}
-use Rattle.book.specs.Posting.{accountAt, lookupOf, paidOf, decisionOf, entriesRewritten, postOf}
+use Rattle.book.specs.Posting.{accountAt, lookupOf, paidOf, decisionOf, entriesRewritten}
 use Rattle.book.proofs.Chain.{slot-inside, place-inside}
 use Rattle.book.proofs.SearchLaws.{findsOf, begins, nearer, past, decided, rewrites}
 use Rattle.book.proofs.WindowLaws.{paysOf, opens, onward, shorter, shut}
-use Rattle.book.proofs.Posting.{room, post-refused, rewrites-at, post-accepted}
+use Rattle.book.proofs.Posting.{room, enter-refused, rewrites-at, enter-accepted}
 use Rattle.replays.specs.Loaded.{loadedReply, recordRefusal}
-use Rattle.replays.specs.Replays.{listedIn, stopOf, replayOf}
+use Rattle.replays.specs.Replays.{listedIn, arrives, comesIn, stopOf, replayOf}
 use Rattle.replays.proofs.Replays.{end-refused, end-passed, decision-number, record-part, restOf, rest-start, replay-less, replay-step, replay-stop, replay-end}
 use Rattle.replays.proofs.replay.Statement.{statement}
 use Rattle.replays.proofs.replay.Tie as tie
@@ -93,6 +94,10 @@ index c = c .before .loop .i
 abbrev book : Turn → Book
 book c = c .before .loop .book
 
+-- how an entry comes in
+abbrev way : Turn → Arrival
+way c = arrives (image c) (book c .run)
+
 abbrev turn : Read → Turn
 turn c = c .before .before
 
@@ -103,7 +108,7 @@ abbrev read : Searched → Read
 read c = c .before .before .before .before .before .before
 
 abbrev summed : Decided → Summed
-summed c = c .before .before .before
+summed c = c .before .before .before .before .before
 
 abbrev placed : Decided → tie.After-place2 Inv-loop2 μ-loop2 Inv-loop3 μ-loop3 Inv-loop μ-loop
 placed c = summed c .before .before .before
@@ -144,26 +149,26 @@ sums-on c = sym (c .before .goes-on2 .ensures) ∙ c .if2 .taken
 paid-is : (c : Decided) → let r = read (searched c) in summed c .loop3 .window .paid ≡ paidOf (book (turn r)) (given r .raw)
 paid-is c =
     let w = summed c in
-    shut (book (turn (read (searched c))) .entries) (w .loop3 .window) (sym (c .before .before .goes-on2 .ensures) ∙ c .before .if2 .left) ∙ w .loop3 .inv
+    shut (book (turn (read (searched c))) .entries) (w .loop3 .window) (sym (c .before .before .before .before .goes-on2 .ensures) ∙ c .before .before .before .if2 .left) ∙ w .loop3 .inv
 
 -- what `decision` gives is the decision on the record's entry
-decision-is : (c : Decided) → let r = read (searched c) in c .decision .result ≡ decisionOf (book (turn r)) (given r .raw)
+decision-is : (c : Decided) → let r = read (searched c) in c .decision .result ≡ decisionOf (way (turn r)) (book (turn r)) (given r .raw)
 decision-is c =
     let s = searched c in
     let r = read s in
-    decided (book (turn r)) (given r .raw) (s .loop2 .search) _ _ _ _ (s .before .before .before .slot .ensures) (s .loop2 .inv) (over (placed c .before)) (placed c .place2 .ensures)
-    (paid-is c) (c .decision .ensures)
+    decided (way (turn r)) (book (turn r)) (given r .raw) (s .loop2 .search) _ _ _ _ (s .before .before .before .slot .ensures) (s .loop2 .inv) (over (placed c .before)) (placed c .place2 .ensures)
+    (paid-is c) (rw (← c .before .arrival .ensures) (c .decision .ensures))
 
 number-is : (c : tie.After-refusal Inv-loop2 μ-loop2 Inv-loop3 μ-loop3 Inv-loop μ-loop) → let t = turn (read (searched (c .before .before .before))) in
-    c .refusal .result ≡ postOf (book t) (recordIn (bytes t) (index t) .raw) .reply .refusal
+    c .refusal .result ≡ comesIn (image t) (book t) (recordIn (bytes t) (index t) .raw) .reply .refusal
 number-is c =
     let r = read (searched (c .before .before .before)) in
     let b = book (turn r) in
-    c .refusal .ensures ∙ ap decisionNumber (decision-is (c .before .before .before)) ∙ decision-number b (given r .raw) ∙ ap (λ q. postOf b (q .raw) .reply .refusal) (record-is r)
+    c .refusal .ensures ∙ ap decisionNumber (decision-is (c .before .before .before)) ∙ decision-number (way (turn r)) b (given r .raw) ∙ ap (λ q. comesIn (image (turn r)) b (q .raw) .reply .refusal) (record-is r)
 
 -- what ends an image at this record
 end-is : (c : tie.After-stop Inv-loop2 μ-loop2 Inv-loop3 μ-loop3 Inv-loop μ-loop) → let r = read (searched (c .before .before .before .before .before .before .before)) in let b = book (turn r) in
-    c .stop .result ≡ stopOf (decisionOf b (given r .raw)) (image (turn r)) (given r .next) (accountAt b (given r .raw .account) .newest)
+    c .stop .result ≡ stopOf (decisionOf (way (turn r)) b (given r .raw)) (image (turn r)) (given r .next) (accountAt b (given r .raw .account) .newest)
 end-is c =
     let s = searched (c .before .before .before .before .before .before .before) in
     let r = read s in
@@ -171,7 +176,7 @@ end-is c =
     c .stop .ensures ∙
     ap (λ o. stopOf o (image (turn r)) (given r .next) (getD (b .accounts) (s .before .before .before .slot .result) noAccount .newest))
     (decision-is (c .before .before .before .before .before .before .before)) ∙
-    ap (λ a. stopOf (decisionOf b (given r .raw)) (image (turn r)) (given r .next) (getD (b .accounts) a noAccount .newest))
+    ap (λ a. stopOf (decisionOf (way (turn r)) b (given r .raw)) (image (turn r)) (given r .next) (getD (b .accounts) a noAccount .newest))
     (s .before .before .before .slot .ensures)
 
 goes-on : (c : Passed) → let t = turn (read (searched (decided-on c))) in
@@ -183,11 +188,11 @@ goes-on c =
     (end-passed (image t) (book t) (given r) (sym (end-is (c .before .before)) ∙ c .enum-told .given .1))
 
 -- an accepted entry, and its number
-accepted : (c : Taken) → let r = read (searched (judged c)) in decisionOf (book (turn r)) (given r .raw) ≡ Accepted (change c)
+accepted : (c : Taken) → let r = read (searched (judged c)) in decisionOf (way (turn r)) (book (turn r)) (given r .raw) ≡ Accepted (change c)
 accepted c = sym (decision-is (judged c)) ∙ c .decision2 .given .1
 
 not-full : (c : Taken) → book (turn (read (searched (judged c)))) .count < entriesMost
-not-full c = let r = read (searched (judged c)) in room (book (turn r)) (given r .raw) (change c) (accepted c)
+not-full c = let r = read (searched (judged c)) in room (way (turn r)) (book (turn r)) (given r .raw) (change c) (accepted c)
 
 next-number : (c : Taken) → c .before .before .before .before .before .before .before .before .before .before .one-more .result ≡ book (turn (read (searched (judged c)))) .count + 1
 next-number c =
@@ -201,7 +206,7 @@ rewritten-is c =
     let d = judged t in
     let s = searched d in
     let r = read s in
-    rewrites (book (turn r)) (given r .raw) (s .loop2 .search) _ _ (change t) (s .loop2 .inv) (over (placed d .before)) (placed d .place2 .ensures) (accepted t)
+    rewrites (way (turn r)) (book (turn r)) (given r .raw) (s .loop2 .search) _ _ (change t) (s .loop2 .inv) (over (placed d .before)) (placed d .place2 .ensures) (accepted t)
     (c .named-at .given .1)
 
 inside : (c : tie.After-named-at Inv-loop2 μ-loop2 Inv-loop3 μ-loop3 Inv-loop μ-loop) → c .named-at .given .0 .0 < entriesMost
@@ -213,7 +218,7 @@ inside c =
 abbrev joined : Stored → List Entry
 joined c = let b = book (turn (read (searched (judged (taken c))))) in set (b .entries) (b .count) (c .before .before .entry3 .result)
 
--- what is stored, with these entries, is the posting's book
+-- what is stored, with these entries, is the book after it
 abbrev bookWith : Stored → List Entry → Book
 bookWith c next =
     let s = searched (judged (taken c)) in
@@ -222,22 +227,24 @@ bookWith c next =
       entries = next;
       count = taken c .before .before .before .before .before .before .before .before .before .before .one-more .result;
       last = c .after .result;
+      run = book (turn (read s)) .run;
+      noted = book (turn (read s)) .noted;
     }
 
 stored : (c : Stored) (f : Found) (next : List Entry) → let t = taken c in let r = read (searched (judged t)) in let b = book (turn r) in
-    change t .«named_at» ≡ f → next ≡ entriesRewritten (b .entries) f (change t .«named_data») (joined c) → bookWith c next ≡ postOf b (given r .raw) .book
+    change t .«named_at» ≡ f → next ≡ entriesRewritten (b .entries) f (change t .«named_data») (joined c) → bookWith c next ≡ comesIn (image (turn r)) b (given r .raw) .book
 stored c f next names rewritten =
     let t = taken c in
     let d = judged t in
     let s = searched d in
     let r = read s in
     ap (λ p. p .book)
-    (post-accepted (book (turn r)) (given r .raw) (change t) (d .decision .result) _ _ _ _ next f _ _ (decision-is d) (t .decision2 .given .1)
+    (enter-accepted (way (turn r)) (book (turn r)) (given r .raw) (change t) (d .decision .result) _ _ _ _ next f _ _ (decision-is d) (t .decision2 .given .1)
     (s .before .before .before .slot .ensures) (next-number t) (c .before .with-newest .ensures) (c .before .before .entry3 .ensures) names rewritten (c .after .ensures) refl)
 
 -- a turn whose record ends nothing keeps the invariant
 stepped : (c : Passed) (next : Book) (m : List ℕ) → let r = read (searched (decided-on c)) in let t = turn r in
-    next ≡ postOf (book t) (given r .raw) .book → m ≡ set (t .before .loop .results) (index t) (c .before .before .before .before .before .before .refusal .result) →
+    next ≡ comesIn (image t) (book t) (given r .raw) .book → m ≡ set (t .before .loop .results) (index t) (c .before .before .before .before .before .before .refusal .result) →
     Inv-loop (bytes t) (image t) (now (t .before .before .before .before .args .results)) (t .before .before .before .before .args .t1) 0 0 m next (index t + 1)
 stepped c next m posted marked =
     let r = read (searched (decided-on c)) in
@@ -245,7 +252,7 @@ stepped c next m posted marked =
     let l = t .before .loop in
     let step = replay-step (image t) (book t) next (bytes t) (l .results) m (index t) _ (before-end t)
     (number-is (c .before .before .before .before .before .before))
-    (posted ∙ ap (λ q. postOf (book t) (q .raw) .book) (record-is r)) marked (goes-on c) in
+    (posted ∙ ap (λ q. comesIn (image t) (book t) (q .raw) .book) (record-is r)) marked (goes-on c) in
     (step .0, step .1 ∙ l .inv .1, l .inv .2 ∙ step .2)
 
 loop-holds : tie.Need-loop-holds Inv-loop2 μ-loop2 Inv-loop3 μ-loop3 Inv-loop μ-loop
@@ -388,7 +395,7 @@ loop-again-3 c =
     let d = decided-on (c .before .before) in
     let r = read (searched d) in
     stepped (c .before .before) _ _
-    (sym (ap (λ p. p .book) (post-refused (book (turn r)) (given r .raw) (c .enum-told3 .given .0 .0) (sym (decision-is d) ∙ c .enum-told3 .given .1))))
+    (sym (ap (λ p. p .book) (enter-refused (way (turn r)) (book (turn r)) (given r .raw) (c .enum-told3 .given .0 .0) (sym (decision-is d) ∙ c .enum-told3 .given .1))))
     (c .before .before .before .before .before .before .before .put-result .ensures)
 
 same-length-2 : tie.Need-same-length-2 Inv-loop2 μ-loop2 Inv-loop3 μ-loop3 Inv-loop μ-loop
@@ -407,7 +414,7 @@ replay-spec =
     (λ c κs. search needs) (λ c κs. search needs) mul-account element-copy-out-account (λ c κs. search needs) loop2-holds (λ c κs. search needs)
     (λ c κs. search needs) mul-entry element-copy-out-entry (λ c κs. search needs) loop2-less loop2-again (λ c κs. search needs) mul-entry-2
     element-copy-out-entry-2 (λ c κs. search needs) loop3-holds (λ c κs. search needs) (λ c κs. search needs) mul-passed element-copy-out-passed
-    (λ c κs. search needs) loop3-less loop3-again (λ c κs. search needs) (λ c κs. search needs) (λ c κs. search needs) (λ c κs. search needs) add-i (λ c κs. search needs)
+    (λ c κs. search needs) loop3-less loop3-again (λ c κs. search needs) (λ c κs. search needs) (λ c κs. search needs) (λ c κs. search needs) (λ c κs. search needs) add-i (λ c κs. search needs)
     (λ c. search needs) (λ c κs. search needs) same-length returns (λ c. search needs) (λ c. search needs) (λ c κs. search needs)
     (λ c. let h = not-full (c .before .before) in omega arith) (λ c. let h = not-full (c .before .before) in omega arith) element-set-from-book
     (λ c κs. search needs) (λ c. let h = slot-in (searched (judged (c .before .before .before)) .before .before .before) in omega arith)

@@ -64,7 +64,9 @@ fn proved(case: &Case, buffers: &mut Buffers) -> Answer {
     match &case.call {
         Call::Check => Answer::Checked(proved::check(image)),
         Call::Post { entry } => Answer::Posted(proved::post(image, entry, output)),
-        Call::CarryOver { run } => Answer::Carried(proved::carry_over(image, run, results, output)),
+        Call::CarryOver { entries: records } => {
+            Answer::Carried(proved::carry_over(image, records, results, output))
+        }
         &Call::Statement { account, allowance } => {
             Answer::Statement(proved::statement(image, account, allowance))
         }
@@ -87,8 +89,8 @@ fn plain(case: &Case, buffers: &mut Buffers) -> Answer {
             let (refusal, bytes) = book.save(&mut buffers.output);
             posted(reply, refusal, bytes)
         }
-        Call::CarryOver { run } => {
-            assert_eq!(book.carry_over(&entries(run), &mut buffers.results), 0);
+        Call::CarryOver { entries: records } => {
+            assert_eq!(book.carry_over(&entries(records), &mut buffers.results), 0);
             let (refusal, bytes) = book.save(&mut buffers.output);
             carried(refusal, bytes)
         }
@@ -117,8 +119,8 @@ fn by_value(case: &Case, buffers: &mut Buffers) -> Answer {
             let (_, refusal, bytes) = book.save(&mut buffers.output);
             posted(reply, refusal, bytes)
         }
-        Call::CarryOver { run } => {
-            let (book, refusal) = book.carry_over(&entries(run), &mut buffers.results);
+        Call::CarryOver { entries: records } => {
+            let (book, refusal) = book.carry_over(&entries(records), &mut buffers.results);
             assert_eq!(refusal, 0);
             let (_, refusal, bytes) = book.save(&mut buffers.output);
             carried(refusal, bytes)
@@ -142,9 +144,10 @@ fn by_value(case: &Case, buffers: &mut Buffers) -> Answer {
     }
 }
 
-/// The entries of a run of records.
-fn entries(run: &[u8]) -> Vec<Raw> {
-    run.chunks_exact(RECORD)
+/// The entries of records.
+fn entries(records: &[u8]) -> Vec<Raw> {
+    records
+        .chunks_exact(RECORD)
         .map(|record| parse_record(record).0)
         .collect()
 }

@@ -14,7 +14,7 @@ pub struct Case {
 pub enum Call {
     Check,
     Post { entry: Vec<u8> },
-    CarryOver { run: Vec<u8> },
+    CarryOver { entries: Vec<u8> },
     Statement { account: u16, allowance: u64 },
     Contribution { account: u16, node: u8, serial: u32 },
     Page { account: u16 },
@@ -30,25 +30,26 @@ impl Case {
     /// Records that the call loads and entries that it posts.
     pub fn postings(&self) -> usize {
         let loaded = self.image.len() / RECORD - 1;
-        loaded + self.run_length()
+        loaded + self.entry_count()
     }
 
     /// Entries that it posts.
-    pub fn run_length(&self) -> usize {
+    pub fn entry_count(&self) -> usize {
         match &self.call {
-            Call::Post { entry: run } | Call::CarryOver { run } => run.len() / RECORD,
+            Call::Post { entry: entries } | Call::CarryOver { entries } => entries.len() / RECORD,
             _ => 0,
         }
     }
 }
 
-/// The account of the runs of one kind.
+/// The account of the lists of one kind.
 const ACCOUNT: u16 = 5;
-const KINDS: usize = LAST_KIND as usize;
+/// How many kinds can be posted.
+const KINDS: usize = LAST_POSTED_KIND as usize;
 
 /// The calls that are timed, all accepted, as are all their entries.
 pub fn cases() -> Vec<Case> {
-    [loads(), runs(), single_calls()]
+    [loads(), carry_overs(), single_calls()]
         .into_iter()
         .flatten()
         .collect()
@@ -69,13 +70,13 @@ fn loads() -> Vec<Case> {
     ]
 }
 
-fn runs() -> Vec<Case> {
-    let contribution = run(CONTRIBUTION, 1..=1);
-    let chain = [&contribution[..], &run(PAYMENT, 2..=500)].concat();
-    let customers = run(ADDED_CUSTOMER, 501..=1_000);
+fn carry_overs() -> Vec<Case> {
+    let contribution = series(CONTRIBUTION, 1..=1);
+    let chain = [&contribution[..], &series(PAYMENT, 2..=500)].concat();
+    let customers = series(ADDED_CUSTOMER, 501..=1_000);
     let [payments, corrections] = corrected(500);
     vec![
-        carry_over("500 payments", &contribution, &run(PAYMENT, 2..=501)),
+        carry_over("500 payments", &contribution, &series(PAYMENT, 2..=501)),
         carry_over("500 entries of all kinds", &[], &mixed(500)),
         carry_over(
             "500 added customers after a chain of 500",
@@ -95,16 +96,17 @@ fn runs() -> Vec<Case> {
     ]
 }
 
-/// Runs of one kind, each beside a run of no entries into the same image. Those
+/// Lists of one kind, each beside a list of no entries into the same image. Those
 /// of 100 compare an added customer with a reduction.
 pub fn postings() -> [[Case; 2]; 4] {
-    let contribution = run(CONTRIBUTION, 1..=1);
-    let chain = [&contribution[..], &run(PAYMENT, 2..=500)].concat();
-    let payments = run(PAYMENT, 501..=1_000);
-    let customers = run(ADDED_CUSTOMER, 501..=1_000);
+    let contribution = series(CONTRIBUTION, 1..=1);
+    let chain = [&contribution[..], &series(PAYMENT, 2..=500)].concat();
+    let payments = series(PAYMENT, 501..=1_000);
+    let customers = series(ADDED_CUSTOMER, 501..=1_000);
     let customer = "an added customer after a chain of 500";
-    let beside_none =
-        |name, chain: &[Raw], run: &[Raw]| [run, &[]].map(|run| carry_over(name, chain, run));
+    let beside_none = |name, chain: &[Raw], entries: &[Raw]| {
+        [entries, &[]].map(|entries| carry_over(name, chain, entries))
+    };
     [
         beside_none("a payment after a chain of 500", &chain, &payments),
         beside_none(customer, &chain, &customers),
@@ -119,15 +121,15 @@ pub fn postings() -> [[Case; 2]; 4] {
 
 /// A guarantee, and 499 payments over all the days of the book.
 fn guarantee_chain() -> Vec<Raw> {
-    let guarantee = run(GUARANTEE, 1..=1);
-    [guarantee, dated(run(PAYMENT, 2..=500), 0, 73)].concat()
+    let guarantee = series(GUARANTEE, 1..=1);
+    [guarantee, dated(series(PAYMENT, 2..=500), 0, 73)].concat()
 }
 
 /// Reductions of that guarantee, each as early as it may come: the days of the
 /// book have room for 100.
 fn reductions() -> Vec<Raw> {
-    let run = run(REDUCTION, 501..=600);
-    dated(run, REDUCTION_INTERVAL, REDUCTION_INTERVAL)
+    let entries = series(REDUCTION, 501..=600);
+    dated(entries, REDUCTION_INTERVAL, REDUCTION_INTERVAL)
 }
 
 /// The entries with days so many apart, from this one on.
@@ -138,10 +140,10 @@ fn dated(entries: Vec<Raw>, first: u16, apart: u16) -> Vec<Raw> {
 }
 
 fn single_calls() -> Vec<Case> {
-    let contribution = run(CONTRIBUTION, 1..=1);
-    let chain = [contribution, run(PAYMENT, 2..=1_024)].concat();
-    let payments = run(PAYMENT, 1..=1_024);
-    let payment = records(&run(PAYMENT, 1_001..=1_001));
+    let contribution = series(CONTRIBUTION, 1..=1);
+    let chain = [contribution, series(PAYMENT, 2..=1_024)].concat();
+    let payments = series(PAYMENT, 1..=1_024);
+    let payment = records(&series(PAYMENT, 1_001..=1_001));
     let statement = Call::Statement {
         account: ACCOUNT,
         allowance: 1_024,
@@ -164,15 +166,15 @@ fn single_calls() -> Vec<Case> {
     ]
 }
 
-/// A run of entries carried over into the image of those before.
-fn carry_over(name: &'static str, before: &[Raw], run: &[Raw]) -> Case {
-    let run = records(run);
-    Case::new(name, before, Call::CarryOver { run })
+/// Entries carried over into the image of those before.
+fn carry_over(name: &'static str, before: &[Raw], entries: &[Raw]) -> Case {
+    let entries = records(entries);
+    Case::new(name, before, Call::CarryOver { entries })
 }
 
 /// Entries of one kind and account. Where the kind names an entry, they name the
 /// one with serial 1.
-fn run(kind: u8, serials: RangeInclusive<u32>) -> Vec<Raw> {
+fn series(kind: u8, serials: RangeInclusive<u32>) -> Vec<Raw> {
     serials
         .map(|serial| entry(kind, ACCOUNT, serial, 1))
         .collect()
@@ -183,13 +185,14 @@ fn run(kind: u8, serials: RangeInclusive<u32>) -> Vec<Raw> {
 fn corrected(count: u32) -> [Vec<Raw>; 2] {
     let correction = |named| entry(CORRECTION, ACCOUNT, count + named, named);
     [
-        run(PAYMENT, 1..=count),
+        series(PAYMENT, 1..=count),
         (1..=count).map(correction).collect(),
     ]
 }
 
-/// Entries of all kinds over groups of 16 accounts: in a group each account has
-/// a contribution, then each an added customer, and so on by kind.
+/// Entries of all kinds that can be posted, over groups of 16 accounts: in a
+/// group each account has a contribution, then each an added customer, and so on
+/// by kind.
 pub fn mixed(count: usize) -> Vec<Raw> {
     let entry_at = |place: usize| {
         let kind = (place / 16 % KINDS) as u8 + 1;

@@ -18,7 +18,7 @@ use std::path::Path;
 use timing::{measure, Side, Times};
 
 /// Bytes of the proved book.
-const PROVED_BYTES: usize = 78_864;
+const PROVED_BYTES: usize = 79_896;
 
 fn main() {
     table::print_head();
@@ -33,13 +33,13 @@ fn main() {
     table::print_row(name, ENTRIES, &times);
     table::print_printers(&times);
     table::print_postings_head();
-    for [run, none] in cases::postings() {
-        compare(&run);
-        table::print_posting(run.name, run.run_length(), &time_postings(&run, &none));
+    for [case, none] in cases::postings() {
+        compare(&case);
+        table::print_posting(case.name, case.entry_count(), &time_postings(&case, &none));
     }
 }
 
-/// Stops unless all books accept the call and every entry of a run, give the
+/// Stops unless all books accept the call and every entry of a list, give the
 /// same answer and leave the same bytes.
 fn compare(case: &Case) {
     let [proved, others @ ..] = CALLERS.map(|call| {
@@ -51,8 +51,8 @@ fn compare(case: &Case) {
         assert!(proved.1 == other.1, "{}: the bytes differ", case.name);
     }
     assert_eq!(proved.0.refusal(), 0, "{}", case.name);
-    if let Call::CarryOver { run } = &case.call {
-        let results = &proved.1.results[..run.len() / RECORD];
+    if let Call::CarryOver { entries } = &case.call {
+        let results = &proved.1.results[..entries.len() / RECORD];
         assert!(results.iter().all(|&refusal| refusal == 0), "{}", case.name);
     }
 }
@@ -65,9 +65,9 @@ fn time_case(case: &Case) -> Times<4> {
 
 /// The times of the proved book's call, of the same call with no entries, and
 /// of a copy.
-fn time_postings(run: &Case, none: &Case) -> Times<3> {
+fn time_postings(case: &Case, none: &Case) -> Times<3> {
     let [proved, ..] = CALLERS;
-    measure([side(proved, run), side(proved, none), copy()])
+    measure([side(proved, case), side(proved, none), copy()])
 }
 
 fn side(call: Caller, case: &Case) -> Side<'_> {

@@ -74,7 +74,7 @@ pub enum Request {
         output: Buffer,
     },
     CarryOver {
-        run: Buffer,
+        entries: Buffer,
         results: Buffer,
         output: Buffer,
     },
@@ -171,10 +171,14 @@ impl Call {
                 buffers.extend([("entry", entry), ("output", output)]);
             }
             Request::CarryOver {
-                run,
+                entries,
                 results,
                 output,
-            } => buffers.extend([("run", run), ("results", results), ("output", output)]),
+            } => buffers.extend([
+                ("entries", entries),
+                ("results", results),
+                ("output", output),
+            ]),
             Request::Page { output, .. } => buffers.push(("output", output)),
             _ => {}
         }
@@ -190,12 +194,12 @@ impl Call {
                 Answer::Posted(post(image, entry.bytes(), output.bytes_mut()))
             }
             Request::CarryOver {
-                run,
+                entries,
                 results,
                 output,
             } => Answer::Carried(carry_over(
                 image,
-                run.bytes(),
+                entries.bytes(),
                 results.bytes_mut(),
                 output.bytes_mut(),
             )),

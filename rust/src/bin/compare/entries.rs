@@ -21,7 +21,7 @@ const LEAP_DAY: u16 = 59;
 const LEAP_DAYS_APART: u16 = 1_461;
 const LEAP_DAYS: u16 = 25;
 
-/// What a posting can be refused by.
+/// What an entry can be refused by where no run is open.
 pub const REFUSALS: [u8; 19] = [
     1, 2, 3, 4, 5, 6, 7, 8, 9, 10, 11, 12, 13, 14, 15, 16, 24, 25, 26,
 ];
@@ -53,6 +53,15 @@ impl Pool {
         }
     }
 
+    /// The same with entries of one kind alone.
+    pub fn of_kind(&self, kind: u8) -> Pool {
+        Pool {
+            accounts: self.accounts.clone(),
+            kinds: vec![kind],
+            least_amount: self.least_amount,
+        }
+    }
+
     fn amount(&self, random: &mut Random) -> u32 {
         random.sized(AMOUNT_MOST).max(self.least_amount)
     }
@@ -72,15 +81,21 @@ pub fn offered(random: &mut Random, pool: &Pool, history: &History) -> Raw {
         0 => 0,
         _ => random.pick(&REFUSALS),
     };
-    aimed(random, pool, history, refusal)
+    aimed(random, pool, history, Incoming::Posted, refusal)
 }
 
 /// An entry that the book refuses by this number, or accepts where it is 0;
 /// some other where none is among the first draws.
-pub fn aimed(random: &mut Random, pool: &Pool, history: &History, refusal: u8) -> Raw {
+pub fn aimed(
+    random: &mut Random,
+    pool: &Pool,
+    history: &History,
+    incoming: Incoming,
+    refusal: u8,
+) -> Raw {
     let mut raw = entry(random, pool, history);
     for _ in 0..DRAWS {
-        if history.refusal(&raw) == refusal {
+        if history.refusal(&raw, incoming) == refusal {
             break;
         }
         raw = entry(random, pool, history);
@@ -121,8 +136,24 @@ fn needs_name(kind: u8) -> bool {
     )
 }
 
+/// The entry that the entry names, among these.
+pub fn named<'a>(raw: &Raw, before: &'a [Raw]) -> Option<&'a Raw> {
+    let pair = (raw.named_node, raw.named_serial);
+    before
+        .iter()
+        .find(|named| (named.node, named.serial) == pair)
+}
+
+/// Whether the entry's kind names one, and it names a late charge of its account
+/// among these.
+pub fn names_late_charge(raw: &Raw, before: &[Raw]) -> bool {
+    let named = named(raw, before).filter(|_| needs_name(raw.kind));
+    named.is_some_and(|named| named.kind == LATE_CHARGE && named.account == raw.account)
+}
+
 /// The entry that a new one of this kind is about: mostly one that it may
-/// name or return, or near which a payment counts, sometimes any of the book.
+/// name or return, or near which a payment counts, sometimes a late charge,
+/// which none may name, or any of the book.
 fn earlier(random: &mut Random, history: &History, kind: u8, account: u16) -> Option<Raw> {
     let kinds: &[u8] = match kind {
         ADDED_CUSTOMER | EXPIRY => &[CONTRIBUTION],
@@ -133,7 +164,9 @@ fn earlier(random: &mut Random, history: &History, kind: u8, account: u16) -> Op
         _ => return None,
     };
     let any = random.one_in(16);
-    let fits = |raw: &&Raw| any || raw.account == account && kinds.contains(&raw.kind);
+    let late = needs_name(kind) && random.one_in(8);
+    let fits_kind = |kind| kinds.contains(&kind) || late && kind == LATE_CHARGE;
+    let fits = |raw: &&Raw| any || raw.account == account && fits_kind(raw.kind);
     let fitting: Vec<&Raw> = history.entries().iter().filter(fits).collect();
     let newest = fitting.len().checked_sub(1)?;
     let place = match kind {
@@ -253,7 +286,8 @@ fn fields(random: &mut Random, pool: &Pool, kind: u8, earlier: Option<Raw>) -> R
             let period = random.within(1..=MAX_PERIOD);
             (amount, period, days_served(random, period))
         }
-        PAYMENT | GUARANTEE => (amount, 0, 0),
+        LATE_CHARGE if random.one_in(4) => (0, 0, 0),
+        PAYMENT | GUARANTEE | LATE_CHARGE => (amount, 0, 0),
         DEPOSIT if random.one_in(2) => half_deposit(random, amount),
         DEPOSIT => (amount, random.sized(MAX_RATE + 1) - 1, 0),
         CORRECTION => (corrected_amount(random, amount, earlier), 0, 0),

@@ -50,12 +50,12 @@ fn answer(book: &mut Book, request: &mut Request) -> Given<Answer> {
             Answer::Posted(post(book, entry.bytes(), output.bytes_mut())?)
         }
         Request::CarryOver {
-            run,
+            entries,
             results,
             output,
         } => Answer::Carried(carry_over(
             book,
-            run.bytes(),
+            entries.bytes(),
             results.bytes_mut(),
             output.bytes_mut(),
         )?),
@@ -84,11 +84,11 @@ fn post(book: &mut Book, entry: &[u8], output: &mut [u8]) -> Given<PostingGiven>
 
 fn carry_over(
     book: &mut Book,
-    run: &[u8],
+    entries: &[u8],
     results: &mut [u8],
     output: &mut [u8],
 ) -> Given<CarryGiven> {
-    let entries = run.chunks_exact(RECORD);
+    let entries = entries.chunks_exact(RECORD);
     if !entries.remainder().is_empty() {
         return Err(17);
     }

@@ -1,5 +1,6 @@
 //! Bills and interest that end in exactly half a cent.
 
+use crate::entries::named;
 use contribution_book::plain::*;
 
 /// The kinds of entry that can be at a half.
@@ -9,11 +10,10 @@ pub const KINDS: [u8; 3] = [BILL, DEPOSIT_RETURN, CORRECTION];
 /// a bill, a correction of a bill at a half, or a return by its interest.
 pub fn of_entry(raw: &Raw, before: &[Raw]) -> Option<u64> {
     let mut newest_first = before.iter().rev();
-    let names = |bill: &&Raw| (bill.node, bill.serial) == (raw.named_node, raw.named_serial);
     let returns = |deposit: &&Raw| deposit.kind == DEPOSIT && deposit.account == raw.account;
     match raw.kind {
         BILL => of_bill(raw),
-        CORRECTION => newest_first.find(names).and_then(of_bill),
+        CORRECTION => named(raw, before).and_then(of_bill),
         DEPOSIT_RETURN => {
             let deposit = newest_first.find(returns)?;
             let days = u64::from(raw.day - deposit.day);

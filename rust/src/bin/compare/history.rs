@@ -1,4 +1,5 @@
-//! A plain book and the entries that it accepted, in order.
+//! A plain book and the entries that it accepted, in order, late charges as
+//! records alone.
 
 use contribution_book::plain::*;
 
@@ -23,9 +24,17 @@ impl History {
         }
     }
 
-    /// What a posting of the entry is refused by, or 0.
-    pub fn refusal(&self, raw: &Raw) -> u8 {
-        self.book.refusal(raw)
+    /// Takes the entry in as a record, which joins the history unless it is
+    /// refused.
+    pub fn record(&mut self, raw: &Raw) {
+        if self.book.record(raw).refusal == 0 {
+            self.entries.push(*raw);
+        }
+    }
+
+    /// What the entry is refused by, or 0.
+    pub fn refusal(&self, raw: &Raw, incoming: Incoming) -> u8 {
+        self.book.refusal(raw, incoming)
     }
 
     pub fn entries(&self) -> &[Raw] {
@@ -36,7 +45,7 @@ impl History {
     pub fn first(&self, count: usize) -> History {
         let mut history = History::empty();
         for raw in &self.entries[..count] {
-            history.offer(raw);
+            history.record(raw);
         }
         history
     }

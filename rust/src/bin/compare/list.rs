@@ -64,12 +64,12 @@ impl List {
         if expected.refusal != 0 || expected.after.image_kind != Kind::Saved {
             return;
         }
-        let run = match &expected.after.request {
+        let entries = match &expected.after.request {
             Request::Post { entry, .. } => entry,
-            Request::CarryOver { run, .. } => run,
+            Request::CarryOver { entries, .. } => entries,
             _ => return,
         };
-        for record in run.bytes().chunks_exact(RECORD) {
+        for record in entries.bytes().chunks_exact(RECORD) {
             self.history.offer(&parse_record(record).0);
         }
     }
@@ -96,15 +96,15 @@ impl List {
             _ => self.random.below(8),
         };
         let mut history = self.history.clone();
-        let mut run = Vec::new();
+        let mut entries = Vec::new();
         for _ in 0..count {
             let raw = entries::offered(&mut self.random, &self.pool, &history);
             history.offer(&raw);
-            run.extend(self.record(&raw));
+            entries.extend(self.record(&raw));
         }
         if self.random.one_in(16) {
-            let length = self.random.below(run.len() + RECORD);
-            run.resize(length, 0);
+            let length = self.random.below(entries.len() + RECORD);
+            entries.resize(length, 0);
         }
         let results = match self.random.below(8) {
             0 => self.random.below(count + 1),
@@ -112,7 +112,7 @@ impl List {
             _ => count,
         };
         Request::CarryOver {
-            run: Buffer::of(&mut self.random, &run),
+            entries: Buffer::of(&mut self.random, &entries),
             results: Buffer::random(&mut self.random, results),
             output: self.output(history.image().len()),
         }
@@ -198,7 +198,7 @@ fn begun(random: &mut Random, pool: &Pool, count: usize) -> History {
         let left = (count - history.entries().len()) as u32;
         let raw = entries::entry(random, pool, &history);
         if raw.serial <= u32::MAX - left {
-            history.offer(&raw);
+            history.record(&raw);
         }
     }
     history

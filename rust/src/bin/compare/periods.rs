@@ -1,5 +1,6 @@
 //! Refund periods and the periods of guarantees, and entries at their ends.
 
+use crate::entries::named;
 use contribution_book::plain::*;
 
 /// The kinds of entry that a period's end decides on, each with its refusal
@@ -62,8 +63,7 @@ pub fn end(kind: u8, start: u16) -> Option<u16> {
 
 /// The day of the entry among these that the entry names.
 pub fn start(raw: &Raw, before: &[Raw]) -> Option<u16> {
-    let names = |named: &&Raw| (named.node, named.serial) == (raw.named_node, raw.named_serial);
-    before.iter().find(names).map(|named| named.day)
+    named(raw, before).map(|named| named.day)
 }
 
 /// The period at whose end an entry comes that is offered after these: on the

@@ -1,20 +1,24 @@
-//! What was tried: calls, images and entries by kind and by refusal number,
-//! entries at a half, and entries at the end of a period.
+//! What was tried: calls, images and entries by kind and by refusal number, late
+//! charges, entries at a half, and entries at the end of a period.
 
 use crate::call::{Call, Request, KINDS};
+use crate::entries::names_late_charge;
 use crate::expected::Expected;
 use crate::periods::{self, Period};
 use crate::{halves, images};
-use contribution_book::plain::{parse_record, Raw, ADDED_CUSTOMER, ENTRIES, LAST_KIND, RECORD};
+use contribution_book::plain::{
+    parse_record, Raw, ADDED_CUSTOMER, ENTRIES, LAST_KIND, LAST_POSTED_KIND, LATE_CHARGE, RECORD,
+};
 use std::fmt;
 
 /// How often each refusal number that can be given has to be met, and each
-/// kind of entry accepted, also at a half and at the end of a period.
+/// kind of entry accepted, late charges in images, the others also at a half and
+/// at the end of a period.
 const LEAST: u64 = 100;
 /// How many calls have to be compared.
 const LEAST_CALLS: u64 = 100_000;
 
-/// Refusal numbers are below this; 0 is for accepted.
+/// Refusal numbers that calls give are below this; 0 is for accepted.
 const NUMBERS: u8 = 27;
 
 /// Whether a refusal number can be met.
@@ -46,6 +50,7 @@ const ENTRY_KINDS: [&str; LAST_KIND as usize + 1] = [
     "guarantee",
     "reduction",
     "retention",
+    "late charge",
 ];
 
 /// Accepted images by their number of entries.
@@ -89,6 +94,31 @@ impl Met {
     }
 }
 
+/// Late charges, and entries that name one of their account.
+struct LateCharges {
+    charges: Met,
+    naming: Met,
+}
+
+impl LateCharges {
+    fn none(of_charges: Possible) -> LateCharges {
+        LateCharges {
+            charges: Met::none(of_charges),
+            naming: Met::none(|number| number == 8),
+        }
+    }
+
+    /// Counts an entry that comes after these.
+    fn add(&mut self, raw: &Raw, before: &[Raw], refusal: u8) {
+        if raw.kind == LATE_CHARGE {
+            self.charges.add(refusal);
+        }
+        if names_late_charge(raw, before) {
+            self.naming.add(refusal);
+        }
+    }
+}
+
 /// How often something was accepted, and how often refused.
 type Judged = [u64; 2];
 const JUDGED: [&str; 2] = ["accepted", "refused"];
@@ -115,6 +145,10 @@ pub struct Tally {
     halves: [[u64; 2]; ENTRY_KINDS.len()],
     /// Entries at the end of each of `Period::ALL`, by `periods::KINDS`.
     ends: [[AtEnd; periods::KINDS.len()]; Period::ALL.len()],
+    /// Posted or carried over.
+    late_offered: LateCharges,
+    /// Accepted images with a late charge, and records at fault.
+    late_in_images: LateCharges,
 }
 
 impl Tally {
@@ -128,6 +162,9 @@ impl Tally {
             entry_kinds: [[0; 2]; ENTRY_KINDS.len()],
             halves: [[0; 2]; ENTRY_KINDS.len()],
             ends: [[[0; 3]; periods::KINDS.len()]; Period::ALL.len()],
+            late_offered: LateCharges::none(|number| number == 1),
+            // 7 can't, as in `OF_IMAGES`.
+            late_in_images: LateCharges::none(|number| matches!(number, 0 | 2..=6 | 20)),
         }
     }
 
@@ -156,19 +193,26 @@ impl Tally {
         if let Some(place) = usize::from(expected.record).checked_sub(1) {
             let entries = images::entries_of(image);
             let (before, from) = entries.split_at(place);
+            self.late_in_images.add(&from[0], before, expected.refusal);
             self.count_end(&from[0], before, expected.refusal, IN_IMAGE);
         }
     }
 
-    /// Counts the entries that an accepted image was offered.
+    /// Counts the entries that an accepted image has and was offered.
     fn count_entries(&mut self, call: &Call, refusal: u8) {
         let mut before = images::entries_of(call.image.bytes());
+        if before.iter().any(|raw| raw.kind == LATE_CHARGE) {
+            self.late_in_images.charges.add(0);
+        }
         match &call.request {
             Request::Post { entry, .. } if OF_ENTRIES(refusal) => {
                 self.count_entry(&mut before, entry.bytes(), refusal);
             }
-            Request::CarryOver { run, results, .. } if refusal == 0 => {
-                for (record, &refusal) in run.bytes().chunks_exact(RECORD).zip(results.bytes()) {
+            Request::CarryOver {
+                entries, results, ..
+            } if refusal == 0 => {
+                for (record, &refusal) in entries.bytes().chunks_exact(RECORD).zip(results.bytes())
+                {
                     self.carried.add(refusal);
                     self.count_entry(&mut before, record, refusal);
                 }
@@ -185,6 +229,7 @@ impl Tally {
         let row = if kind < ENTRY_KINDS.len() { kind } else { 0 };
         let judged = usize::from(refusal != 0);
         self.entry_kinds[row][judged] += 1;
+        self.late_offered.add(&raw, before, refusal);
         self.count_end(&raw, before, refusal, judged);
         if refusal != 0 {
             return;
@@ -238,7 +283,12 @@ impl Tally {
             add(calls, name);
         }
         add(&self.carried, "entry carried");
-        let kinds = ENTRY_KINDS.iter().zip(self.entry_kinds).skip(1);
+        add(&self.late_offered.charges, "late charge offered");
+        add(&self.late_offered.naming, "late charge named");
+        add(&self.late_in_images.charges, "late charge in an image");
+        add(&self.late_in_images.naming, "late charge named in an image");
+        let kinds = ENTRY_KINDS.iter().zip(self.entry_kinds);
+        let kinds = kinds.take(LAST_POSTED_KIND as usize + 1).skip(1);
         tried.extend(kinds.map(|(name, [accepted, _])| (format!("{name}: accepted"), accepted)));
         for row in halves::KINDS.map(usize::from) {
             let name = |cents| format!("{} at a half, {cents} cents: accepted", ENTRY_KINDS[row]);
@@ -249,6 +299,26 @@ impl Tally {
             tried.extend(tried_at_end(period, rows));
         }
         tried
+    }
+
+    fn write_late_charges(&self, out: &mut fmt::Formatter) -> fmt::Result {
+        writeln!(
+            out,
+            "\nLate charges, and entries that name one of their account,"
+        )?;
+        writeln!(
+            out,
+            "posted or carried over and in images, by refusal number"
+        )?;
+        let names = ["charge", "naming", "image: charge", "image: naming"];
+        let [offered, in_images] = [&self.late_offered, &self.late_in_images];
+        let columns = [
+            offered.charges,
+            offered.naming,
+            in_images.charges,
+            in_images.naming,
+        ];
+        write_met(out, &names, &columns)
     }
 }
 
@@ -298,6 +368,7 @@ impl fmt::Display for Tally {
             writeln!(out, "{name:>16} {count:>10}")?;
         }
         writeln!(out, "\nEntries posted or carried over by kind")?;
+        writeln!(out, "(a late charge is accepted in images alone)")?;
         let entry_kinds = ENTRY_KINDS.map(String::from);
         write_counts(out, JUDGED, &entry_kinds, &self.entry_kinds)?;
         writeln!(out, "\nOf these, accepted at a half by whole cents")?;
@@ -310,7 +381,7 @@ impl fmt::Display for Tally {
             writeln!(out, "\nEntries {}", period.at_end())?;
             write_counts(out, AT_END, &kinds, rows)?;
         }
-        Ok(())
+        self.write_late_charges(out)
     }
 }
 

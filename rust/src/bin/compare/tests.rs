@@ -3,12 +3,14 @@
 
 use crate::call::{Answer, Call, Request};
 use crate::difference::{compare, Difference};
+use crate::entries::names_late_charge;
 use crate::expected::expected;
 use crate::halves;
 use crate::images::entries_of;
 use crate::periods::{self, Period};
 use crate::tally::Tally;
 use contribution_book::plain::*;
+use contribution_book::proved::CheckGiven;
 
 /// How many lists are compared where no difference is found before.
 const LISTS: u64 = 4_000;
@@ -112,28 +114,34 @@ fn posts(call: &Call, kind: u8) -> bool {
     }
 }
 
+/// The plain book's answer where each record of the image is changed so.
+fn with_records(call: &Call, changed: impl Fn(Raw) -> Raw) -> Answer {
+    let mut call = call.clone();
+    for record in call.image.bytes_mut().chunks_exact_mut(RECORD).skip(1) {
+        let (raw, next) = parse_record(record);
+        write_record(record, &changed(raw), next);
+    }
+    expected(&call).answer
+}
+
 /// Bills of the image at a half, with whole cents of this parity, go to the odd
 /// cent: the answer is as if each had that charge for 1 of 1 day.
 fn half_bills_to_odd(call: &Call, answer: &mut Answer, parity: u64) {
     if expected(call).refusal != 0 {
         return;
     }
-    let mut call = call.clone();
-    for record in call.image.bytes_mut().chunks_exact_mut(RECORD).skip(1) {
-        let (raw, next) = parse_record(record);
+    *answer = with_records(call, |raw| {
         let whole = halves::of_bill(&raw).filter(|whole| whole % 2 == parity);
-        if let Some(whole) = whole {
-            let amount = whole as u32 | 1;
-            let raw = Raw {
-                amount,
+        match whole {
+            Some(whole) => Raw {
+                amount: whole as u32 | 1,
                 a: 1,
                 b: 1,
                 ..raw
-            };
-            write_record(record, &raw, next);
+            },
+            None => raw,
         }
-    }
-    *answer = expected(&call).answer;
+    });
 }
 
 /// Where posted interest is at a half, with whole cents of this parity, it goes
@@ -188,6 +196,164 @@ const HALF_SLIPS: [(&str, Slip); 6] = [
     }),
     ("half interest rounded down", |call, answer| {
         half_interest_to_odd(call, answer, 1);
+    }),
+];
+
+/// An accepted image is refused at its first late charge of these.
+fn refuse_late_charge(
+    call: &Call,
+    answer: &mut Answer,
+    refusal: u8,
+    is_refused: impl Fn(&Raw) -> bool,
+) {
+    let Answer::Checked(given) = answer else {
+        return;
+    };
+    let entries = entries_of(call.image.bytes());
+    let mut places = entries.iter().zip(1..);
+    let at_fault = places.find(|(raw, _)| raw.kind == LATE_CHARGE && is_refused(raw));
+    if let (0, Some((_, record))) = (given.refusal, at_fault) {
+        *given = CheckGiven {
+            refusal,
+            record,
+            entries: 0,
+        };
+    }
+}
+
+/// An image that is refused by this number at such a record is accepted.
+fn accept_record(
+    call: &Call,
+    answer: &mut Answer,
+    refusal: u8,
+    is_accepted: impl Fn(&Raw, &[Raw]) -> bool,
+) {
+    let Answer::Checked(given) = answer else {
+        return;
+    };
+    let Some(place) = usize::from(given.record).checked_sub(1) else {
+        return;
+    };
+    let entries = entries_of(call.image.bytes());
+    if given.refusal == refusal && is_accepted(&entries[place], &entries[..place]) {
+        *given = CheckGiven {
+            entries: entries.len() as u16,
+            ..CheckGiven::default()
+        };
+    }
+}
+
+/// An entry of this kind that names a late charge is accepted when posted.
+fn post_naming(call: &Call, answer: &mut Answer, kind: u8) {
+    let (Request::Post { entry, .. }, Answer::Posted(given)) = (&call.request, answer) else {
+        return;
+    };
+    if !posts(call, kind) || (given.record, given.refusal) != (0, 8) {
+        return;
+    }
+    let raw = parse_record(entry.bytes()).0;
+    if names_late_charge(&raw, &entries_of(call.image.bytes())) {
+        given.refusal = 0;
+    }
+}
+
+/// The kinds that name an entry.
+const NAMING: [u8; 5] = [ADDED_CUSTOMER, EXPIRY, CORRECTION, REDUCTION, RETENTION];
+
+/// Whether an entry's field is out of range.
+type Broken = fn(&Raw) -> bool;
+
+/// What 5 refuses of a late charge.
+const LATE_CHARGE_RANGES: [(&str, Broken); 5] = [
+    ("an amount", |raw| raw.amount > AMOUNT_MOST),
+    ("a named serial", |raw| raw.named_serial != 0),
+    ("a", |raw| raw.a != 0),
+    ("b", |raw| raw.b != 0),
+    ("a named node", |raw| raw.named_node != 0),
+];
+
+const LATE_CHARGE_SLIPS: [(&str, Slip); 9] = [
+    ("a late charge posted", |call, answer| match answer {
+        Answer::Posted(given)
+            if posts(call, LATE_CHARGE) && (given.record, given.refusal) == (0, 1) =>
+        {
+            given.refusal = 0;
+        }
+        _ => {}
+    }),
+    ("a late charge carried over", |call, answer| {
+        let (
+            Request::CarryOver {
+                entries, results, ..
+            },
+            Answer::Carried(given),
+        ) = (&mut call.request, answer)
+        else {
+            return;
+        };
+        let records = entries.bytes().chunks_exact(RECORD);
+        for (record, result) in records.zip(results.bytes_mut()) {
+            if given.refusal == 0 && record[0] == LATE_CHARGE {
+                *result = 0;
+            }
+        }
+    }),
+    ("no late charge in an image", |call, answer| {
+        refuse_late_charge(call, answer, 1, |_| true);
+    }),
+    ("no late charge of zero", |call, answer| {
+        refuse_late_charge(call, answer, 5, |raw| raw.amount == 0);
+    }),
+    ("no late charge of 100,000,000", |call, answer| {
+        refuse_late_charge(call, answer, 5, |raw| raw.amount == AMOUNT_MOST);
+    }),
+    ("bills without late charges", |call, answer| {
+        let (&Request::Statement { account, .. }, Answer::Statement(given)) =
+            (&call.request, answer)
+        else {
+            return;
+        };
+        let entries = entries_of(call.image.bytes());
+        let chain = entries.iter().rev().filter(|raw| raw.account == account);
+        let read = chain.take(given.links_read.into());
+        let late_charges = read.filter(|raw| raw.kind == LATE_CHARGE);
+        given.bills -= late_charges.map(|raw| u64::from(raw.amount)).sum::<u64>();
+    }),
+    ("a late charge that credits", |call, answer| {
+        let credited = with_records(call, |raw| match raw.kind {
+            LATE_CHARGE if raw.amount > 0 => Raw {
+                kind: PAYMENT,
+                ..raw
+            },
+            _ => raw,
+        });
+        if let (Answer::Statement(given), Answer::Statement(credited)) = (answer, credited) {
+            if given.refusal == 0 {
+                given.arrears = credited.arrears;
+                given.credit = credited.credit;
+            }
+        }
+    }),
+    ("a late charge's amount on a page", |call, answer| {
+        let (Request::Page { output, .. }, Answer::Page(given)) = (&mut call.request, answer)
+        else {
+            return;
+        };
+        let mut lines = output.bytes_mut()[..given.bytes].chunks_exact_mut(81);
+        if let Some(line) = lines.nth(7).filter(|line| line[11..13] == *b"12") {
+            line[13..76].fill(b' ');
+            line[76..80].copy_from_slice(b"0.00");
+        }
+    }),
+    ("a late charge's amount saved", |call, answer| {
+        let (Request::Post { output, .. }, Answer::Posted(given)) = (&mut call.request, answer)
+        else {
+            return;
+        };
+        let mut records = output.bytes_mut()[..given.bytes].chunks_exact_mut(RECORD);
+        if let Some(record) = records.find(|record| record[0] == LATE_CHARGE) {
+            record[12..16].fill(0);
+        }
     }),
 ];
 
@@ -319,8 +485,11 @@ const BUFFER_SLIPS: [(&str, Slip); 5] = [
         }
     }),
     ("past the results", |call, _| {
-        if let Request::CarryOver { run, results, .. } = &mut call.request {
-            if let Some(byte) = results.bytes_mut().get_mut(run.bytes().len() / 24) {
+        if let Request::CarryOver {
+            entries, results, ..
+        } = &mut call.request
+        {
+            if let Some(byte) = results.bytes_mut().get_mut(entries.bytes().len() / 24) {
                 *byte = !*byte;
             }
         }
@@ -377,15 +546,42 @@ fn the_plain_book_differs_in_nothing_from_itself() {
 /// In this list both nodes are offered serials near the last one early on.
 #[test]
 fn a_list_begins_where_serials_are_few() {
-    let list = 167_963;
+    let list = 102_263;
     assert!(compare(list, plain, &mut Tally::new()).is_ok());
 }
 
 #[test]
 fn every_slip_is_found() {
-    let slips = [&ANSWER_SLIPS[..], &HALF_SLIPS, &PAGE_SLIPS, &BUFFER_SLIPS];
+    let slips = [
+        &ANSWER_SLIPS[..],
+        &HALF_SLIPS,
+        &LATE_CHARGE_SLIPS,
+        &PAGE_SLIPS,
+        &BUFFER_SLIPS,
+    ];
     for (name, slip) in slips.into_iter().flatten() {
         assert!(first_difference(*slip).is_some(), "{name}");
+    }
+}
+
+#[test]
+fn every_range_of_a_late_charge_is_tried() {
+    for (name, is_broken) in LATE_CHARGE_RANGES {
+        let accepts = |raw: &Raw, _: &[Raw]| raw.kind == LATE_CHARGE && is_broken(raw);
+        let loaded = first_difference(|call, answer| accept_record(call, answer, 5, accepts));
+        assert!(loaded.is_some(), "{name}");
+    }
+}
+
+#[test]
+fn every_kind_that_names_a_late_charge_is_tried() {
+    for kind in NAMING {
+        let posted = first_difference(|call, answer| post_naming(call, answer, kind));
+        assert!(posted.is_some(), "{kind} posted");
+        let accepts =
+            |raw: &Raw, before: &[Raw]| raw.kind == kind && names_late_charge(raw, before);
+        let loaded = first_difference(|call, answer| accept_record(call, answer, 8, accepts));
+        assert!(loaded.is_some(), "{kind} loaded");
     }
 }
 
@@ -494,6 +690,11 @@ fn what_was_tried_too_rarely_is_named() {
         "post: refusal number 7 fewer than 100 times",
         "page: refusal number 23 fewer than 100 times",
         "expiry: accepted fewer than 100 times",
+        "late charge offered: refusal number 1 fewer than 100 times",
+        "late charge named: refusal number 8 fewer than 100 times",
+        "late charge in an image: refusal number 0 fewer than 100 times",
+        "late charge in an image: refusal number 5 fewer than 100 times",
+        "late charge named in an image: refusal number 8 fewer than 100 times",
         "deposit return at a half, odd cents: accepted fewer than 100 times",
         "expiry at the end of a period of 1,827 days: accepted fewer than 100 times",
         "added customer at the end of a period from 29 February, in an image: refusal number 12 \

@@ -1,4 +1,3 @@
-use mathlib.Core.Path.{sym, _∙_}
 use Rattle.queries.specs.Walk.{standingIn}
 use borrow.Author.Needs.{needs}
 use Rattle.queries.proofs.statements.standing.Statement.{statement}
@@ -6,11 +5,11 @@ use Rattle.queries.proofs.statements.standing.Tie as tie
 
 returns : tie.Need-returns
 unfolding standingIn
-returns c = simp (sym (c .before .before .is .ensures) ∙ c .before .if1 .taken)
+returns c = simp (c .before .if1 .taken)
 
 returns-2 : tie.Need-returns-2
 unfolding standingIn
-returns-2 c = simp (sym (c .before .is .ensures) ∙ c .if1 .left)
+returns-2 c = simp (c .if1 .left)
 
 pub standing-spec : {M : Type 1} → statement M
-standing-spec = tie.close (tie.spec (λ c κs. search needs) returns returns-2)
+standing-spec = tie.close (tie.spec returns returns-2)

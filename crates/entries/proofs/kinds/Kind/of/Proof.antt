@@ -63,9 +63,13 @@ returns-11 c = search needs
 
 returns-12 : tie.Need-returns-12
 unfolding kindOf
-returns-12 c = let r = c .match .rest in
-    past _ (λ h. climb (r .1) (climb (r .0 .1) (climb (r .0 .0 .1) (climb (r .0 .0 .0 .1) (climb (r .0 .0 .0 .0 .1) (climb (r .0 .0 .0 .0 .0 .1) (climb (r .0 .0 .0 .0 .0 .0 .1) (climb (r .0 .0 .0 .0 .0 .0 .0 .1) (climb (r .0 .0 .0 .0 .0 .0 .0 .0 .1) (climb (r .0 .0 .0 .0 .0 .0 .0 .0 .0 .1) (climb (r .0 .0 .0 .0 .0 .0 .0 .0 .0 .0 .1) h)))))))))))
+returns-12 c = search needs
+
+returns-13 : tie.Need-returns-13
+unfolding kindOf
+returns-13 c = let r = c .match .rest in
+    past _ (λ h. climb (r .1) (climb (r .0 .1) (climb (r .0 .0 .1) (climb (r .0 .0 .0 .1) (climb (r .0 .0 .0 .0 .1) (climb (r .0 .0 .0 .0 .0 .1) (climb (r .0 .0 .0 .0 .0 .0 .1) (climb (r .0 .0 .0 .0 .0 .0 .0 .1) (climb (r .0 .0 .0 .0 .0 .0 .0 .0 .1) (climb (r .0 .0 .0 .0 .0 .0 .0 .0 .0 .1) (climb (r .0 .0 .0 .0 .0 .0 .0 .0 .0 .0 .1) (climb (r .0 .0 .0 .0 .0 .0 .0 .0 .0 .0 .0 .1) h))))))))))))
 
 pub of-spec : {M : Type 1} → statement M
 of-spec =
-    tie.close (tie.spec returns returns-2 returns-3 returns-4 returns-5 returns-6 returns-7 returns-8 returns-9 returns-10 returns-11 returns-12)
+    tie.close (tie.spec returns returns-2 returns-3 returns-4 returns-5 returns-6 returns-7 returns-8 returns-9 returns-10 returns-11 returns-12 returns-13)
