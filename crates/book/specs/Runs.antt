@@ -1,11 +1,7 @@
 -- The late-charge run that a book has open.
 use Prim.Native.Nat.{ℕ}
 use mathlib.Core.Bool.{Bool, cond, not}
-use mathlib.Core.List.{List}
-use lib.ListN.{replicate}
 use lib.Dec.{eqb}
-use Rattle.measures.specs.Cents.{cents}
-use Rattle.measures.specs.declared.Cents.{Cents}
 use Rattle.entries.specs.declared.arrivals.Arrival.{Arrival}
 use Rattle.entries.specs.declared.arrivals.Arrival.the-variants.{Posted, PostedInRun}
 use Rattle.book.specs.declared.Run.{Run}

@@ -39,8 +39,8 @@ abbrev pub pointsAt : Raw → Entry → Bool
 pointsAt r e = carries (r .«named_node») (r .«named_serial») e
 
 -- what the rules and the queries read of a bill, a payment or a late charge: the kind, the standing amount, and whether it was corrected
-abbrev pub correctableParticulars : Kind → Cents → Bool → Particulars
-correctableParticulars k standing corrected =
+abbrev pub standingParticulars : Kind → Cents → Bool → Particulars
+standingParticulars k standing corrected =
     record {
       kind = k;
       amount = cents 0;
@@ -57,7 +57,7 @@ correctableParticulars k standing corrected =
 
 -- what they read of an entry that nothing names: the kind
 abbrev pub otherParticulars : Kind → Particulars
-otherParticulars k = correctableParticulars k (cents 0) false
+otherParticulars k = standingParticulars k (cents 0) false
 
 -- what they read of a contribution: its amount, metres, phases, what is held, the customers added and whether it is closed
 abbrev pub contributionParticulars : Cents → Metres → ℕ → Cents → ℕ → Bool → Particulars
@@ -143,10 +143,10 @@ ofGuarantee d i x = caseOf d (λ _ _ _ _ _ _ _ _ _. x) (λ _ _ _ _ _. x) (λ _ _
 unfoldable pub particularsOf : Data → Particulars
 particularsOf d =
     caseOf d (λ phases built added closed amount held _ _ _. contributionParticulars amount built phases held added closed)
-    (λ _ _ _ standing corrected. correctableParticulars kind.Bill standing corrected)
-    (λ _ standing corrected. correctableParticulars kind.Payment standing corrected)
+    (λ _ _ _ standing corrected. standingParticulars kind.Bill standing corrected)
+    (λ _ standing corrected. standingParticulars kind.Payment standing corrected)
     (λ closed reduced _ held. guaranteeParticulars held reduced closed)
-    (λ amount. correctableParticulars kind.LateCharge amount false)
+    (λ amount. standingParticulars kind.LateCharge amount false)
     otherParticulars
 
 abbrev pub oneMore : ℕ → ℕ

@@ -5,7 +5,7 @@ use measures::Cents;
 use measures::Day;
 use measures::Metres;
 ghost use mathlib.Core.Path.{_≡_};
-ghost use Rattle.entries.specs.Data.{noEntry, otherParticulars, correctableParticulars, contributionParticulars, guaranteeParticulars, oneMore, particularsOf, refundedOf, expiredOf, restatedOf, reducedOf, retainedOf, withOf, carries};
+ghost use Rattle.entries.specs.Data.{noEntry, otherParticulars, standingParticulars, contributionParticulars, guaranteeParticulars, oneMore, particularsOf, refundedOf, expiredOf, restatedOf, reducedOf, retainedOf, withOf, carries};
 
 // What was posted and what became of it, by kind. The case is the kind.
 pub enum Data {
@@ -96,12 +96,12 @@ impl Particulars {
     fn other(kind: Kind) -> Particulars
         ensures { λ r. ⌜ r ≡ otherParticulars kind ⌝ }
     {
-        Particulars::correctable(kind, Cents(0), false)
+        Particulars::standing(kind, Cents(0), false)
     }
 
-    // What they read of a bill or a payment, and of a late charge, which stands as it was posted.
-    fn correctable(kind: Kind, standing: Cents, corrected: bool) -> Particulars
-        ensures { λ r. ⌜ r ≡ correctableParticulars kind standing corrected ⌝ }
+    // What they read of a bill or a payment, and of a late charge, which stands at its amount.
+    fn standing(kind: Kind, standing: Cents, corrected: bool) -> Particulars
+        ensures { λ r. ⌜ r ≡ standingParticulars kind standing corrected ⌝ }
     {
         Particulars {
             kind,
@@ -189,19 +189,19 @@ impl Data {
                 standing,
                 corrected,
                 ..
-            } => Particulars::correctable(Kind::Bill, standing, corrected),
+            } => Particulars::standing(Kind::Bill, standing, corrected),
             Data::Payment {
                 standing,
                 corrected,
                 ..
-            } => Particulars::correctable(Kind::Payment, standing, corrected),
+            } => Particulars::standing(Kind::Payment, standing, corrected),
             Data::Guarantee {
                 closed,
                 reduced,
                 held,
                 ..
             } => Particulars::guarantee(held, reduced, closed),
-            Data::LateCharge(amount) => Particulars::correctable(Kind::LateCharge, amount, false),
+            Data::LateCharge(amount) => Particulars::standing(Kind::LateCharge, amount, false),
             Data::AddedCustomer { .. } => Particulars::other(Kind::AddedCustomer),
             Data::Deposit { .. } => Particulars::other(Kind::Deposit),
             Data::DepositReturn => Particulars::other(Kind::DepositReturn),

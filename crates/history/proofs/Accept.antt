@@ -200,10 +200,6 @@ module _ (h : History) (r : Raw) where
   unfolding moveBy
   move-upon b n i e f = rw (named-at n i e f)
 
--- what a correction names: a bill, or else a payment
-abbrev pub correctable : Bool → Kind
-correctable bill = cond bill kind.Bill kind.Payment
-
 -- the kinds that name an entry, each with the kinds that it names
 pub upon-cases : (P : Kind → Kind → Type 0) → P kind.AddedCustomer kind.Contribution → P kind.Expiry kind.Contribution →
     P kind.Correction kind.Bill → P kind.Correction kind.Payment → P kind.Reduction kind.Guarantee → P kind.Retention kind.Guarantee →

@@ -1,4 +1,5 @@
--- The documents' claims once more and in full, from demand 3 alone: no weaker statement of it, and none with a part left out, proves them.
+-- The documents' claims once more and in full, from demand 3 alone, and what a run does, from its definitions: no weaker statement, and none with
+-- a part left out, proves them.
 use mathlib.Core.Path.{_≡_, refl, sym, subst, _∙_}
 use Prim.Native.Nat.{ℕ, _+_, _-_, _*_, _/_, min, _≤_, _<_}
 use native.Mathlib.Omega.{arith}
@@ -153,7 +154,7 @@ module _ (cs : List Call) where
   counts : (e : Raw) → (b .count ≤ entries) × (fate h e .added < 65535)
   counts e = let d = demand3 cs in omega (arith, d .kept .agrees .counted, d .bounded .room, d .bounded .added e)
 
--- RUNS, by the history
+-- RUNS: what their definitions say, written out
 module _ (s : State) where
   -- a posting leaves the run: a payment that comes in meanwhile lowers no noted arrears
   unmoved : (r : Raw) → callIn s (posting r) .0 .run ≡ s .run

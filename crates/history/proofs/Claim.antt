@@ -1,7 +1,7 @@
 -- Demand 3, from the law of one call over lists of calls.
 use mathlib.Core.Path.{_≡_, refl, ap}
 use mathlib.Core.Bool.{Bool, true, false}
-use mathlib.Core.List.{List, [], _∷_}
+use mathlib.Core.List.{List, []}
 use Rattle.entries.specs.Kinds.{kindOf}
 use Rattle.entries.specs.Data.{entryOf}
 use Rattle.entries.specs.declared.raw.Raw.{Raw}

@@ -32,7 +32,6 @@ use Rattle.history.specs.Agreement.{Kept}
 use Rattle.history.specs.Trips.{historyIn}
 use Rattle.history.specs.Hosts.{HostQuery, check, statement, contribution, page, HostCall, posting, carryOver, query, queried, hostQueryOf, wrote, hostOf, freshImage, postRefusalIn, postIn, carryRefusalIn, carryIn, hostQueryIn, hostIn, Lent, AllLent, HostClaim, Demand3Hosts}
 use Rattle.history.proofs.Tests.{tested, either}
-use Rattle.history.proofs.Agreement.{agreement}
 use Rattle.history.proofs.Laws.{offered, laws}
 use Rattle.history.proofs.Carry.{replied-number, posted-kept, posted-same, posted-run, posts-same, results-same}
 use Rattle.history.proofs.Runs.{idle-run}

@@ -1,14 +1,14 @@
 -- Openings, steps and closes of a run keep a book and a state in agreement, and answer as the history says.
-use Prim.Native.Nat.{ℕ, zero, suc, _+_, _≤_, _<_, min}
+use Prim.Native.Nat.{ℕ, zero, suc, _+_, _≤_, _<_}
 use mathlib.Core.Path.{_≡_, refl, sym, ap, ap₂, subst, _∙_}
 use mathlib.Core.Bool.{Bool, true, false, cond, not, _||_, true≢false}
 use mathlib.Core.List.{List, [], _∷_, map}
 use native.Mathlib.Omega.{arith}
-use native.Mathlib.Nat.{min-eq-left, zero-add, add-zero, sub-zero, zero-sub, zero-min, min-zero}
+use native.Mathlib.Nat.{min-eq-left, zero-sub, zero-min}
 use lib.ListN.{length, getD, drop, length-map, length-drop}
 use lib.Seq.{drop-cons, drop-drop, getD-drop}
 use lib.Dec.{eqb, leb, ltb}
-use borrow.Author.Tests.{eq-eqb, ne-eqb, le-leb, lt-leb, le-ltb, ltb-true, ltb-false}
+use borrow.Author.Tests.{ne-eqb, le-leb, lt-leb, le-ltb, ltb-true, ltb-false}
 use Rattle.measures.specs.Cents.{cents}
 use Rattle.measures.specs.declared.Cents.{Cents}
 use Rattle.entries.specs.Kinds.{kindOf}
@@ -25,7 +25,6 @@ use Rattle.rules.specs.Accounts.{noAccount}
 use Rattle.rules.specs.Answers.{postingReplyOf}
 use Rattle.rules.specs.Formulas.{lateAmount}
 use Rattle.rules.specs.declared.accounts.Account.{Account}
-use Rattle.rules.specs.declared.answers.PostingReply.{PostingReply}
 use Rattle.rules.proofs.FormulasLaws.{plain}
 use Rattle.book.specs.Runs as books
 use Rattle.book.specs.Chain.{slotOf}
@@ -38,7 +37,7 @@ use Rattle.runs.specs.Runs.{RanReply, arrearsOf, nextNoted, withRun, withoutRun
 use Rattle.history.specs.History.{History, accounts, entries, lastDay, lastSerial, named, moveBy, balance, fourAmounts, amounts, judgeBy, judge, offer, repliedBy, repliedOf}
 use Rattle.history.specs.Laws.{Valid, amountBound}
 use Rattle.history.specs.Runs.{Noted, Run, runOf, noRun, anyLeft, isOpen, State, stateWith, arrivalIn, lateRateMost, serialMost, withNote, notes, openingRefusal, opened, lateCharge, chargeIn, stepRefusal, stepped, stepReply, closeRefusal, closed}
-use Rattle.history.specs.Agreement.{accountIn, Agrees, Kept, notesIn, nextIn, AllSmall, RunInRange, RunKept, over, goes-on, KeptState}
+use Rattle.history.specs.Agreement.{Kept, notesIn, nextIn, AllSmall, RunInRange, RunKept, over, goes-on, KeptState}
 use Rattle.history.proofs.Tests.{tested}
 use Rattle.history.proofs.Laws.{laws}
 use Rattle.history.proofs.Search.{last-same}

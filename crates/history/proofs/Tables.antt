@@ -189,7 +189,7 @@ kept-read kind.Reduction e f s p = (refl, λ A g x. refl)
 kept-read kind.Retention e f s p = (refl, λ A g x. refl)
 kept-read kind.LateCharge e f s p = (refl, λ A g x. refl)
 
--- what is left of the table after 1 to 7, for the entry that r names or none, and what an entry does that passes it
+-- what is left of the table after 1 to 7 and 27, for the entry that r names or none, and what an entry does that passes it
 abbrev pub rows : Raw → Kind → Account → Bool → chains.Sought → List checks.Row
 rows r k acc false s = ownRows r k acc
 rows r k acc true chains.missing = record { broken = true; refusal = no.NotOnChain } ∷ []

@@ -194,4 +194,5 @@ trips =
       loaded-idle = loaded-idle;
       loaded-kept = loaded-kept;
       loaded-on = λ l e cs t. saved _ _ (calls-same (loaded-state l e) cs .0 .history) t;
+      loaded-whole = λ l e cs o. idle-over (calls-same (loaded-state l e) cs .0 .run) o;
     }

@@ -133,12 +133,12 @@ pub record RunInRange (run : Run) : Type 0 where
   pub rate : run .rate ≤ lateRateMost
   pub small : AllSmall (run .left)
 
--- A book's run and noted arrears are those of the history's run. While it is open, the accounts left are those after the last that was
--- charged that have noted arrears; where it is over, all is zero.
+-- A book's run and noted arrears are those of the history's run. While it is open, the accounts left are those after some place that have
+-- noted arrears; where it is over, all is zero.
 pub data RunKept (kept : declared.Run) (noted : List Cents) (run : Run) : Type 0 where
   over : run .left ≡ [] → kept ≡ books.noRun → noted ≡ noneNoted → RunKept kept noted run
   goes-on : (n : Noted) (ns : List Noted) → run .left ≡ n ∷ ns → kept ≡ books.runOf (run .node) (run .day) (run .rate) (n .account) →
-      length noted ≡ accounts → (last : ℕ) → run .left ≡ notesIn (last + 1) (drop last noted) → RunInRange run → RunKept kept noted run
+      length noted ≡ accounts → (place : ℕ) → run .left ≡ notesIn (place + 1) (drop place noted) → RunInRange run → RunKept kept noted run
 
 -- a book that keeps the history's entries and its run
 pub record KeptState (b : Book) (s : State) : Type 0 where

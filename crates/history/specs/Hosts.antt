@@ -129,7 +129,7 @@ AllLent (c ∷ cs) = Lent c × AllLent cs
 pub record HostClaim (l : List ℕ) (h : History) (cs : List HostCall) : Type 0 where
   -- what each call gives, and its result list and output at the end, is the history's at that point
   pub answered : answersAlong hostOf l cs ≡ answersAlong hostIn h cs
-  -- the image after the entries is the history's
+  -- the image after the list is the history's
   pub image : after hostOf l cs ≡ imageIn (after hostIn h cs)
   -- it loads, and the loaded book keeps the history, whose every entry passed the judge
   pub loads : loadOf (after hostOf l cs) .refusal ≡ 0

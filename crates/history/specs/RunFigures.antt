@@ -3,7 +3,7 @@ use Prim.Native.Nat.{ℕ}
 use mathlib.Core.Path.{_≡_}
 use mathlib.Core.Bool.{true}
 use mathlib.Core.List.{List, [], _∷_, map}
-use Rattle.history.specs.Laws.{AccountSums, sumsOf}
+use Rattle.history.specs.Laws.{sumsOf}
 use Rattle.history.specs.Queries as queries
 use Rattle.history.specs.Calls.{Call, posting, opening, step, close, query, CallAnswer, ran, queried, answersIn, historyOf}
 use Rattle.history.specs.Witness.{entry, accepted, refused, statement, stated, AnsweredCall, _gives_, sums}

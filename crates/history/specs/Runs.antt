@@ -9,7 +9,6 @@ use Rattle.entries.specs.Ranges.{between}
 use Rattle.entries.specs.declared.arrivals.Arrival.{Arrival}
 use Rattle.entries.specs.declared.arrivals.Arrival.the-variants.{Posted, PostedInRun}
 use Rattle.entries.specs.declared.raw.Raw.{Raw}
-use Rattle.rules.specs.Answers.{postingReply}
 use Rattle.rules.specs.Formulas.{lateAmount}
 use Rattle.rules.specs.declared.answers.PostingReply.{PostingReply}
 use Rattle.history.specs.History.{History, accounts, entries, lastDay, lastSerial, balance, fourAmounts, _⇒_, firstBroken, repliedBy}

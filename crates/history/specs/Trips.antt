@@ -41,6 +41,8 @@ pub record Trips : Type 0 where
   pub loaded-recorded : (l : List ℕ) → loadOf l .refusal ≡ 0 → loadOf l ≡ acceptedLoad (recordedOf freshBook (map rawIn (recordsIn l)))
   pub loaded-idle : (l : List ℕ) → loadOf l .refusal ≡ 0 → withoutRun (loadOf l .book) ≡ loadOf l .book
   pub loaded-kept : (l : List ℕ) → loadOf l .refusal ≡ 0 → Kept (loadOf l .book) (historyIn l)
-  -- a book that was loaded and on which calls were made loads from its image as the same book without its run
+  -- a book that was loaded and on which calls were made loads from its image as the same book without its run, and whole where none is open
   pub loaded-on : (l : List ℕ) → loadOf l .refusal ≡ 0 → (cs : List Call) → AllTyped (stateAfter (stateFrom (historyIn l)) cs .entries) →
       loadOf (imageOf (bookAfter (loadOf l .book) cs)) ≡ acceptedLoad (withoutRun (bookAfter (loadOf l .book) cs))
+  pub loaded-whole : (l : List ℕ) → loadOf l .refusal ≡ 0 → (cs : List Call) → isOpen (stateAfter (stateFrom (historyIn l)) cs .run) ≡ false →
+      withoutRun (bookAfter (loadOf l .book) cs) ≡ bookAfter (loadOf l .book) cs

@@ -155,16 +155,21 @@ fn print_results(results: &[u8; 5]) {
     print_bytes(results);
 }
 
-// Carries over a run, with so many places for results and so much room for the next image. Last are the output's first byte and five
+// Carries entries over, with so many places for results and so much room for the next image. Last are the output's first byte and five
 // places, 255 before.
-fn carry(host: Host, run: &[u8], places: usize, room: usize) -> Host {
+fn carry(host: Host, entries: &[u8], places: usize, room: usize) -> Host {
     let image = host.image;
     let mut results = [255u8; 5];
     let mut output = [255u8; ROOM];
     let n = first(&image, host.length);
     let p = first(&results, places);
     let m = first(&output, room);
-    let given = contribution_book_carry_over(&image[..n], run, &mut results[..p], &mut output[..m]);
+    let given = contribution_book_carry_over(
+        &image[..n],
+        entries,
+        &mut results[..p],
+        &mut output[..m],
+    );
     io::write_all(1, b"carry-over");
     print(given.refusal as u64);
     print(given.record as u64);
@@ -180,7 +185,7 @@ fn carry(host: Host, run: &[u8], places: usize, room: usize) -> Host {
     }
 }
 
-// The first so many bytes of the other node's records are the run.
+// The first so many bytes of the other node's records are the entries.
 fn carry_into(host: Host, other: Host, size: usize, places: usize, room: usize) -> Host {
     let image = other.image;
     carry(host, part(&image, 24, size), places, room)

@@ -49,7 +49,7 @@ givenBackOf held paid = cents (givenBack (held .0) (paid .0))
 unfoldable pub lateAmountOf : Cents → ℕ → Cents
 lateAmountOf noted rate = leastOf (roundedOf (timesOf noted rate) 10000) (cents amountMost)
 
--- a run's rate, in hundredths of a percent, and arrears that no 1,024 entries pass
+-- a run's highest rate, in hundredths of a percent, and arrears that no 1,024 entries pass
 abbrev pub runRateMost : ℕ
 runRateMost = 1000
 

@@ -43,7 +43,7 @@ withoutRun b = withRun b noRun noneNoted
 abbrev pub arrearsOf : Account → Cents
 arrearsOf acc = acc .arrears
 
--- of noted arrears, the first of which are those of an account: the first account that has some, 0 where none has
+-- of the noted arrears of accounts a, a + 1 and so on: the first account that has some, 0 where none has
 unfoldable pub nextNoted : ℕ → List Cents → ℕ
 nextNoted a [] = 0
 nextNoted a (n ∷ ns) = cond (ltb 0 (n .0)) a (nextNoted (a + 1) ns)

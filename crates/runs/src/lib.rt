@@ -75,7 +75,7 @@ fn arrears_of(accounts: [Account; Book::ACCOUNTS]) -> [Cents; Book::ACCOUNTS]
     noted
 }
 
-// The first account after one that has noted arrears, and 0 where none is left.
+// The first account after `charged` that has noted arrears, and 0 where none is left.
 fn next_noted(noted: [Cents; Book::ACCOUNTS], charged: u16) -> u16
     ensures { λ r. ⌜ r ≡ nextNoted (charged + 1) (drop charged noted) ⌝ }
 {
@@ -100,7 +100,7 @@ fn without_run(mut book: Book) -> Book
     book
 }
 
-// The run goes on at the first account after one that has noted arrears; where none is left, it is over.
+// The run goes on at the first account after `charged` that has noted arrears; where none is left, it is over.
 fn go_on(mut book: Book, run: Run, noted: [Cents; Book::ACCOUNTS], charged: u16) -> Book
     ensures { λ r. ⌜ r ≡ goesOnAfter book run noted charged ⌝ }
 {
@@ -202,7 +202,7 @@ pub fn step(book: Book) -> Posted
     }
 }
 
-// Closes the run before its last account.
+// Closes the run before its last account is charged.
 pub fn close_run(book: Book) -> Ran
     ensures { λ r. ⌜ ranReply r ≡ closeRunOf book ⌝ }
 {

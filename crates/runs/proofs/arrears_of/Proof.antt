@@ -1,10 +1,9 @@
 use mathlib.Core.Path.{_≡_, refl, sym, ap, _∙_}
 use mathlib.Core.List.{map}
-use Prim.Native.Nat.{_+_, _-_, _≤_}
+use Prim.Native.Nat.{_-_, _≤_}
 use native.Mathlib.Omega.{arith}
 use lib.ListN.{length, take, length-set}
 use lib.Seq.{take-all}
-use borrow.Author.Needs.{needs}
 use Rattle.book.specs.Fresh.{accountsMost}
 use Rattle.runs.specs.Runs.{arrearsOf}
 use Rattle.runs.proofs.RunsLaws.{arrears-step}

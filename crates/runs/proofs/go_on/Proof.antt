@@ -1,4 +1,3 @@
-use mathlib.Core.Path.{sym, _∙_}
 use borrow.Author.Needs.{needs}
 use borrow.Author.Tests.{eq-eqb, ne-eqb}
 use Rattle.runs.specs.Runs.{goesOnAt}

@@ -1,5 +1,4 @@
 use Rattle.queries.specs.Walk.{standingIn}
-use borrow.Author.Needs.{needs}
 use Rattle.queries.proofs.statements.standing.Statement.{statement}
 use Rattle.queries.proofs.statements.standing.Tie as tie
 

@@ -9,11 +9,11 @@ returns c = rw (c .before .before .self .given .1) (c .contribution .ensures)
 
 returns-2 : tie.Need-returns-2
 unfolding caseOf particularsOf
-returns-2 c = rw (c .before .before .self2 .given .1) (c .correctable .ensures)
+returns-2 c = rw (c .before .before .self2 .given .1) (c .standing .ensures)
 
 returns-3 : tie.Need-returns-3
 unfolding caseOf particularsOf
-returns-3 c = rw (c .before .before .self3 .given .1) (c .correctable2 .ensures)
+returns-3 c = rw (c .before .before .self3 .given .1) (c .standing2 .ensures)
 
 returns-4 : tie.Need-returns-4
 unfolding caseOf particularsOf
@@ -21,7 +21,7 @@ returns-4 c = rw (c .before .before .self4 .given .1) (c .guarantee .ensures)
 
 returns-5 : tie.Need-returns-5
 unfolding caseOf particularsOf
-returns-5 c = rw (c .before .before .self5 .given .1) (c .correctable3 .ensures)
+returns-5 c = rw (c .before .before .self5 .given .1) (c .standing3 .ensures)
 
 returns-6 : tie.Need-returns-6
 unfolding caseOf particularsOf
