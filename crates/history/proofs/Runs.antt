@@ -36,6 +36,7 @@ use Rattle.book.proofs.Posting.{enter-run}
 use Rattle.runs.specs.Runs.{RanReply, arrearsOf, nextNoted, withRun, withoutRun, goesOnAt, goesOnAfter, nextSerial, chargeOf, notedNext, steppedOf, checkOpeningOf, openRunOf, stepOf, closeRunOf}
 use Rattle.history.specs.History.{History, accounts, entries, lastDay, lastSerial, named, moveBy, balance, fourAmounts, amounts, judgeBy, judge, offer, repliedBy, repliedOf}
 use Rattle.history.specs.Laws.{Valid, amountBound}
+use Rattle.history.specs.Images.{Typed}
 use Rattle.history.specs.Runs.{Noted, Run, runOf, noRun, anyLeft, isOpen, State, stateWith, arrivalIn, lateRateMost, serialMost, withNote, notes, openingRefusal, opened, lateCharge, chargeIn, stepRefusal, stepped, stepReply, closeRefusal, closed}
 use Rattle.history.specs.Agreement.{Kept, notesIn, nextIn, AllSmall, RunInRange, RunKept, over, goes-on, KeptState}
 use Rattle.history.proofs.Tests.{tested}
@@ -366,6 +367,19 @@ module _ {b : Book} {s : State} (w : KeptState b s) where
             let below = ltb-false serialMost (last + 1) p in
             let new : leb (nextSerial last) last ≡ false = lt-leb (nextSerial last) last (omega arith) in
             goes (min-eq-left (omega arith)) (judged ∙ rw (new, q) refl) (refusal ∙ rw (p, q) refl)
+
+  -- a charge that joins is a value of its type
+  typed-by : RunKept (b .run) (b .noted) (s .run) → (n : Noted) (ns : List Noted) → s .run .left ≡ n ∷ ns → stepRefusal g (s .run) ≡ 0 → Typed (chargeIn g (s .run) n)
+  typed-by (over e k z) n ns q r = absurd (omega (arith, ap (λ (x : List Noted). length x) (sym e ∙ q)))
+  typed-by (goes-on m ms e k long place left ranged) n ns q r =
+      let to = next (b .noted) (s .run) n ns place q long left in
+      let serial : lastSerial g (s .run .node) + 1 ≤ serialMost =
+      tested (λ t. _≡_ {A = ℕ} (cond t 6 (cond (leb entries (length g)) 7 0)) 0 → lastSerial g (s .run .node) + 1 ≤ serialMost) (ltb serialMost (lastSerial g (s .run .node) + 1))
+      (λ p z. let six : _≡_ {A = ℕ} 6 0 = z in absurd (omega arith)) (λ p z. ltb-false serialMost (lastSerial g (s .run .node) + 1) p) (rw q at r) in
+      omega (arith, serial, to .low, to .high, ranged .node-high, ranged .day)
+
+  pub charge-typed : (n : Noted) (ns : List Noted) → s .run .left ≡ n ∷ ns → stepRefusal g (s .run) ≡ 0 → Typed (chargeIn g (s .run) n)
+  charge-typed = typed-by (w .run)
 
   step-by : RunKept (b .run) (b .noted) (s .run) → KeptState (stepOf b .book) (stepped (stepRefusal g (s .run)) s) × (stepOf b .reply ≡ stepReply s)
   unfolding stepOf postingReplyOf

@@ -39,7 +39,7 @@ use Rattle.history.proofs.Agreement.{agreement}
 use Rattle.history.proofs.Determined.{determined}
 use Rattle.history.proofs.Images.{image-kept}
 use Rattle.history.proofs.Carry.{number-same}
-use Rattle.history.proofs.Runs.{idle-run, idle-over, idle-entered}
+use Rattle.history.proofs.Runs.{idle-run, idle-over, idle-entered, charge-typed}
 use Rattle.history.proofs.Claim.{calls-same, fresh-kept}
 
 -- ONE RECORD
@@ -188,6 +188,7 @@ trips =
     record {
       image = λ b h w. image-kept w;
       saved-loads = λ cs t. saved _ _ (calls-same fresh-kept cs .0 .history) t;
+      charge-typed = λ cs n ns e r. charge-typed (calls-same fresh-kept cs .0) n ns e r;
       whole = λ cs o. idle-over (calls-same fresh-kept cs .0 .run) o;
       loaded-saves = λ l h e. image-kept (loaded-kept l e) ∙ image-again l h e;
       loaded-recorded = loaded-recorded;

@@ -13,9 +13,9 @@ use Rattle.saves.specs.Saves.{imageOf}
 use Rattle.replays.specs.Loaded.{rawIn, acceptedLoad}
 use Rattle.loads.specs.Loads.{recordsIn, loadOf}
 use Rattle.history.specs.History.{History}
-use Rattle.history.specs.Images.{AllTyped, imageIn}
+use Rattle.history.specs.Images.{Typed, AllTyped, imageIn}
 use Rattle.history.specs.Agreement.{Kept}
-use Rattle.history.specs.Runs.{isOpen}
+use Rattle.history.specs.Runs.{Noted, isOpen, chargeIn, stepRefusal}
 use Rattle.history.specs.Calls.{Call, stateFrom, stateAfter, stateOf, historyOf}
 use Rattle.history.specs.Claim.{bookAfter, bookOf}
 
@@ -28,13 +28,16 @@ unfoldable pub recordedOf : Book → List Raw → Book
 recordedOf b [] = b
 recordedOf b (r ∷ rs) = recordedOf (recordOf b r .book) rs
 
--- proofs/Trips.antt shows it. Of the bytes of an image and of the entries that joined it asks what every value of their type satisfies.
+-- proofs/Trips.antt shows it. Of the bytes of an image and of the entries that joined it asks what every value of their type satisfies; a
+-- step's charge satisfies it (`charge-typed`).
 pub record Trips : Type 0 where
   -- the image of a book is that of the history that it keeps
   pub image : (b : Book) (h : History) → Kept b h → imageOf b ≡ imageIn h
   -- the book that a list of calls leaves loads from its image as the same book without its run, and whole where none is open
   pub saved-loads : (cs : List Call) → AllTyped (historyOf cs) → loadOf (imageOf (bookOf cs)) ≡ acceptedLoad (withoutRun (bookOf cs))
   pub whole : (cs : List Call) → isOpen (stateOf cs .run) ≡ false → withoutRun (bookOf cs) ≡ bookOf cs
+  pub charge-typed : (cs : List Call) (n : Noted) (ns : List Noted) → stateOf cs .run .left ≡ n ∷ ns → stepRefusal (historyOf cs) (stateOf cs .run) ≡ 0 →
+      Typed (chargeIn (historyOf cs) (stateOf cs .run) n)
   -- an image that loads is that of the loaded book: it saves as the same bytes
   pub loaded-saves : (l : List ℕ) → Bytes l → loadOf l .refusal ≡ 0 → imageOf (loadOf l .book) ≡ l
   -- a load that is not refused gives the book in which its records are recorded in turn, with no run, and that book keeps their history
