@@ -16,6 +16,9 @@
  * 0 to 100,000,000, its further fields being zero; no entry may name it. Posted or carried over it is refused by 1, as an
  * unknown kind is.
  *
+ * A bill of zero days served (kind 3 with b 0) is refused by 30, straight after 5, where it is posted or carried over. An
+ * image is never refused by 30: there such a bill stands at zero and may be corrected as any other.
+ *
  * Each buffer is a pointer and its length in bytes. The pointer is not null, also where the length is 0. The buffers that a
  * call writes must not overlap one another or those that it reads. No call keeps a pointer, allocates, or uses memory that
  * another call uses, so that calls on separate buffers may run at once. A call uses up to 1 MiB of stack.
@@ -76,8 +79,8 @@ struct contribution_book_posting_given {
  * Posts one entry.
  * Takes    the image, and the entry as a record, whose next index is not read.
  * Gives    the entry's number, the four amounts of its answer, and the length of the next image.
- * Refuses  the image; then the entry by 17 where it hasn't 24 bytes, and by 1 to 16 and 24 to 26; then by 21 an output that
- *          is shorter than the next image.
+ * Refuses  the image; then the entry by 17 where it hasn't 24 bytes, and by 1 to 16, 24 to 26 and 30; then by 21 an output
+ *          that is shorter than the next image.
  * Leaves   the next image at the start of the output, which must not overlap the image or the entry.
  */
 struct contribution_book_posting_given contribution_book_post(const uint8_t *image, size_t image_length,
@@ -97,8 +100,8 @@ struct contribution_book_carry_given {
  * Refuses  the image; then the entries by 17 where their length is no multiple of 24; then by 22 a result list that is shorter
  *          than the entries; then by 21 an output that is shorter than the next image. An entry that is refused doesn't
  *          refuse the call.
- * Leaves   each entry's refusal number, or 0, at its place in the result list, and the next image at the start of the
- *          output. The two must not overlap each other, the image or the entries.
+ * Leaves   each entry's refusal number, 1 to 16, 24 to 26 or 30, or 0, at its place in the result list, and the next image
+ *          at the start of the output. The two must not overlap each other, the image or the entries.
  *
  * An output of CONTRIBUTION_BOOK_LONGEST_IMAGE bytes always has room. Where an output has no room for the image with
  * all the entries, each is posted twice, the first time only to learn whether the next image fits.

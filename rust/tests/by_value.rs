@@ -105,6 +105,22 @@ fn damaged_images() {
 }
 
 #[test]
+fn a_bill_of_zero_days_served_is_refused_when_posted_and_loads() {
+    let bill = samples::entry(BILL, 1, 1, 0);
+    let (plain, by_value) = posted(&[Raw { b: 0, ..bill }, bill]);
+    let mut image = saved(&plain, by_value);
+    // The days served of the record.
+    let served = RECORD + 22;
+    assert_eq!((image.len(), image[served]), (2 * RECORD, bill.b));
+    image[served] = 0;
+    let (plain, refusal, record) = plain::Book::load(&image);
+    assert_eq!((refusal, record), (0, 0));
+    let (by_value, refusal, record) = by_value::Book::load(&image);
+    assert_eq!((refusal, record), (0, 0));
+    assert_eq!(saved(&plain, by_value), image);
+}
+
+#[test]
 fn carry_overs() {
     for seed in 1..=10 {
         let entries = entries(seed);

@@ -321,7 +321,6 @@ fn p7_p8_billed_amounts() {
     bills_are(&[
         (10_000, 30, 7, 2_333),
         (5, 2, 1, 2),
-        (10_000, 30, 0, 0),
         (100_000_000, 62, 62, 100_000_000),
     ]);
 }
@@ -1557,7 +1556,7 @@ fn a_page_has_the_entries_of_its_account_alone() {
 #[test]
 fn amounts_on_a_page() {
     let book = book(&[
-        bill(1, 100, 1, 0),
+        bill(1, 1, 62, 1),
         payment(2, 5),
         payment(3, 99),
         payment(4, 100),
@@ -2266,4 +2265,242 @@ fn late_charges_count_with_bills_among_the_entries_read() {
     let mut line = Vec::new();
     write_account(&mut line, 5, &book.statement(5, 0)).unwrap();
     assert_eq!(line, b"5 520 0 0 0\n");
+}
+
+/// A bill of zero days served: 0 of 30 days of a charge of 10,000.
+fn no_day(serial: u32) -> Raw {
+    bill(serial, 10_000, 30, 0)
+}
+
+/// The book of an image that has these entries, which saves as the same bytes.
+fn recorded(entries: &[Raw]) -> Book {
+    let bytes = image_of(entries);
+    let (book, refusal, record) = Book::load(&bytes);
+    assert_eq!((refusal, record), (0, 0));
+    assert_eq!(image(&book), bytes);
+    book
+}
+
+/// Bills of zero days served with serial 2, each with a field out of range and
+/// its refusal number.
+fn no_day_out_of_range() -> [(Raw, u8); 9] {
+    let good = no_day(2);
+    let [mut named_node, mut named_serial] = [good; 2];
+    named_node.named_node = 1;
+    named_serial.named_serial = 1;
+    [
+        (Raw { node: 3, ..good }, 2),
+        (at(129, good), 3),
+        (on(36_525, good), 4),
+        (bill(2, 0, 30, 0), 5),
+        (bill(2, 100_000_001, 30, 0), 5),
+        (bill(2, 10_000, 0, 0), 5),
+        (bill(2, 10_000, 63, 0), 5),
+        (named_node, 5),
+        (named_serial, 5),
+    ]
+}
+
+#[test]
+fn refusal_30_a_bill_of_zero_days_served() {
+    // The least and the greatest charge and period, and P7's.
+    for (charge, period) in [(1, 1), (10_000, 30), (100_000_000, 62)] {
+        let raw = bill(1, charge, period, 0);
+        all_refused(&[raw, Raw { node: 2, ..raw }, on(36_524, at(128, raw))], 30);
+    }
+    // One day served: all of 1, and the 62nd part of 6,200.
+    bills_are(&[(1, 1, 1, 1), (6_200, 62, 1, 100)]);
+}
+
+#[test]
+fn refusal_30_comes_after_2_to_5() {
+    let mut book = owing(&[(5, 500)]);
+    for (raw, refusal) in no_day_out_of_range() {
+        refused(&mut book, raw, refusal);
+    }
+    refused(&mut book, no_day(2), 30);
+}
+
+#[test]
+fn refusal_30_comes_before_6_and_7() {
+    let mut book = payments(1_024);
+    for serial in [0, 1, 1_024, 1_025] {
+        refused(&mut book, no_day(serial), 30);
+    }
+    refused(&mut book, bill(1_024, 10_000, 30, 1), 6);
+    refused(&mut book, bill(1_025, 10_000, 30, 1), 7);
+}
+
+#[test]
+fn refusal_30_during_a_run() {
+    let mut book = owing(&[(5, 500)]);
+    opened(&mut book, (1, 10, 1_000));
+    refused(&mut book, no_day(2), 30);
+    refused(&mut book, correction(2, 1, 400), 27);
+    // The run goes on: the charge takes the serial that was refused.
+    assert_eq!(stepped(&mut book), on(10, late_charge(2, 50)));
+}
+
+#[test]
+fn a_serial_refused_by_30_is_free_for_the_next_entry() {
+    let mut book = Book::fresh();
+    refused(&mut book, no_day(1), 30);
+    assert_eq!(accepted(&mut book, bill(1, 10_000, 30, 7)), [0; 4]);
+    assert_eq!(balance(&book), (2_333, 0));
+}
+
+#[test]
+fn refusal_30_in_a_carry_over() {
+    let mut book = owing(&[(5, 500)]);
+    let entries = [
+        no_day(2),
+        payment(2, 200),
+        // An old serial, a field out of range.
+        no_day(2),
+        bill(3, 10_000, 63, 0),
+        bill(3, 6_200, 62, 1),
+        no_day(4),
+        // Of the bill that has just been refused.
+        correction(5, 4, 700),
+    ];
+    let mut results = [9; 8];
+    assert_eq!(book.carry_over(&entries, &mut results), 0);
+    assert_eq!(results, [30, 0, 30, 5, 0, 30, 8, 9]);
+    // 500 - 200 + 100.
+    assert_eq!((book.count(), balance(&book)), (3, (400, 0)));
+}
+
+#[test]
+fn kinds_without_days_served_are_not_refused_by_30() {
+    let entries = [
+        payment(1, 300),
+        deposit(2, 1_000, 0),
+        guarantee(3, 2_000),
+        deposit_return(4),
+        correction(5, 1, 400),
+        on(365, reduction(6, 3)),
+        on(1_827, retention(7, 3)),
+    ];
+    let mut results = [9; 7];
+    let mut carried = Book::fresh();
+    assert_eq!(carried.carry_over(&entries, &mut results), 0);
+    assert_eq!(results, [0; 7]);
+    assert!(carried == book(&entries));
+}
+
+#[test]
+fn the_record_of_a_bill_of_zero_days_served() {
+    let mut bytes = [0; 48];
+    bytes[..6].copy_from_slice(&[0x43, 0x48, 0x42, 0x31, 0x01, 0x00]);
+    bytes[24..].copy_from_slice(&[
+        0x03, 0x01, 0x05, 0x00, 0x0A, 0x00, 0x00, 0x00, //
+        0x01, 0x00, 0x00, 0x00, 0x10, 0x27, 0x00, 0x00, //
+        0x00, 0x00, 0x00, 0x00, 0x1E, 0x00, 0x00, 0x00,
+    ]);
+    let book = recorded(&[on(10, no_day(1))]);
+    assert_eq!(image(&book), bytes);
+}
+
+#[test]
+fn bills_of_zero_days_served_in_an_image_stand_at_zero() {
+    let book = recorded(&[
+        on(10, bill(1, 100_000_000, 62, 0)),
+        on(11, payment(2, 500)),
+        on(12, bill(3, 1, 1, 0)),
+        on(13, bill(4, 800, 1, 1)),
+    ]);
+    let expected = StatementReply {
+        arrears: 300,
+        links_read: 4,
+        bills: 800,
+        payments: 500,
+        complete: true,
+        ..StatementReply::default()
+    };
+    assert_eq!(book.statement(5, 4), expected);
+    let mut line = Vec::new();
+    write_account(&mut line, 5, &book.statement(5, 0)).unwrap();
+    assert_eq!(line, b"5 300 0 0 0\n");
+    let lines = [
+        "   4    13  3                                                               8.00",
+        "   3    12  3                                                               0.00",
+        "   2    11  4                                                               5.00",
+        "   1    10  3                                                               0.00",
+    ];
+    assert_eq!(page(&book, 5)[7..11], lines);
+}
+
+#[test]
+fn a_run_charges_nothing_on_a_bill_of_zero_days_served() {
+    let mut book = recorded(&[no_day(1), at(6, bill(2, 500, 1, 1))]);
+    opened(&mut book, (1, 10, 1_000));
+    assert_eq!(stepped(&mut book), on(10, at(6, late_charge(3, 50))));
+    has_no_run(&mut book);
+}
+
+#[test]
+fn a_bill_of_zero_days_served_in_an_image_is_corrected_once() {
+    // The new amount; arrears and credit after it, where credit was 500.
+    let figures = [
+        (0, 0, 500),
+        (499, 0, 1),
+        (700, 200, 0),
+        (10_000, 9_500, 0),
+        (100_000_000, 99_999_500, 0),
+    ];
+    for (amount, arrears, credit) in figures {
+        let start = [no_day(1), payment(2, 500)];
+        let raw = correction(3, 1, amount);
+        let mut book = recorded(&start);
+        assert_eq!(accepted(&mut book, raw), [0; 4]);
+        assert_eq!(balance(&book), (arrears, credit));
+        assert_eq!(book.statement(5, 3).bills, amount.into());
+        refused(&mut book, correction(4, 1, 600), 16);
+
+        let mut carried = recorded(&start);
+        let mut results = [9; 2];
+        let entries = [raw, correction(4, 1, 600)];
+        assert_eq!(carried.carry_over(&entries, &mut results), 0);
+        assert_eq!(results, [0, 16]);
+        assert!(carried == book);
+
+        assert!(recorded(&[start[0], start[1], raw]) == book);
+        load_refused(&image_of(&[start[0], raw, correction(4, 1, 600)]), 16, 3);
+    }
+}
+
+#[test]
+fn a_corrected_bill_of_zero_days_served_on_a_page() {
+    let book = recorded(&[no_day(1), on(20, correction(2, 1, 700))]);
+    let lines = [
+        "   2    20  8                                                               7.00",
+        "   1     0  3                                                               7.00",
+    ];
+    assert_eq!(page(&book, 5)[7..9], lines);
+}
+
+#[test]
+fn a_full_image_of_bills_of_zero_days_served() {
+    let entries: Vec<Raw> = (1..=1_024).map(no_day).collect();
+    let mut book = recorded(&entries);
+    assert_eq!(balance(&book), (0, 0));
+    refused(&mut book, no_day(1_025), 30);
+    refused(&mut book, correction(1_025, 1, 700), 7);
+}
+
+#[test]
+fn refusals_of_a_bill_of_zero_days_served_at_load() {
+    let first = bill(1, 500, 1, 1);
+    for (raw, refusal) in no_day_out_of_range() {
+        load_refused(&image_of(&[first, raw]), refusal, 2);
+    }
+    for serial in [0, 1] {
+        load_refused(&image_of(&[first, no_day(serial)]), 6, 2);
+    }
+    // More days served than the period has.
+    load_refused(&image_of(&[first, bill(2, 10_000, 30, 31)]), 5, 2);
+    let mut bytes = image_of(&[first, no_day(2)]);
+    assert_eq!(bytes[54], 1);
+    bytes[54] = 0;
+    load_refused(&bytes, 20, 2);
 }

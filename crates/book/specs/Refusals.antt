@@ -1,10 +1,10 @@
--- Refused, in checking order: 1 to 7 here, 27 before 7, 8 to 16 and 24 to 26 in the rules' ownRows and namingRows.
+-- Refused, in checking order: 1 to 7 here, 30 after 5 and 27 before 7, 8 to 16 and 24 to 26 in the rules' ownRows and namingRows.
 use Prim.Native.Nat.{ℕ}
 use mathlib.Core.Bool.{cond, not}
 use mathlib.Core.List.{List, [], _∷_}
 use lib.Dec.{leb, ltb}
 use Rattle.measures.specs.declared.Cents.{Cents}
-use Rattle.entries.specs.Arrivals.{unknownTo, waitsFor}
+use Rattle.entries.specs.Arrivals.{unknownTo, noDayFor, waitsFor}
 use Rattle.entries.specs.Kinds.{kindOf, namesOf}
 use Rattle.entries.specs.Ranges.{between, inRangeOf}
 use Rattle.entries.specs.Refusals.{Row, _⇒_, checkRows, decidedOf}
@@ -29,6 +29,7 @@ entryRows r k w count last =
     (not (between (r .account) 1 accountsMost) ⇒ no.UnknownAccount) ∷
     (ltb lastDay (r .day) ⇒ no.UnknownDay) ∷
     (not (inRangeOf r k) ⇒ no.FieldOutOfRange) ∷
+    (noDayFor w k (r .b) ⇒ no.NoDaysServed) ∷
     (leb (r .serial) last ⇒ no.SerialNotNew) ∷
     (waitsFor w k ⇒ no.CorrectionInRun) ∷
     (leb entriesMost count ⇒ no.BookFull) ∷
@@ -42,7 +43,7 @@ unfoldable pub searchedOf : Raw → Kind → Account → Cents → Sought → De
 searchedOf r k acc paid missing = Refused no.NotOnChain
 searchedOf r k acc paid (found i e) = namingDecisionOf r k acc paid i e
 
--- 1 to 7 and 27 first, by how it comes in, w; then an entry goes on with its own rows, or with those about the entry that it names; `paid` is the sum of the
+-- 1 to 7, 30 and 27 first, by how it comes in, w; then an entry goes on with its own rows, or with those about the entry that it names; `paid` is the sum of the
 -- payments in a reduction's window
 unfoldable pub decisionBy : Raw → Arrival → ℕ → ℕ → Account → Sought → Cents → Decision
 decisionBy r w count last acc s paid =

@@ -304,7 +304,7 @@ impl Window {
     }
 }
 
-// 1 to 7, and 27 before 7: the refusals that the entry, how it comes in, its node's last serial and the number of entries decide.
+// 1 to 7, 30 after 5 and 27 before 7: the refusals that the entry, how it comes in, its node's last serial and the number of entries decide.
 fn check_entry(raw: Raw, kind: Kind, arrival: Arrival, count: u16, last: u32) -> Check
     ensures { λ r. ⌜ r ≡ checkEntryOf raw kind arrival count last ⌝ }
 {
@@ -317,6 +317,7 @@ fn check_entry(raw: Raw, kind: Kind, arrival: Arrival, count: u16, last: u32) ->
         )
         .refuse_if(Day::LAST < raw.day, Refusal::UnknownDay)
         .refuse_if(!raw.in_range(kind), Refusal::FieldOutOfRange)
+        .refuse_if(arrival.no_day(kind, raw.b), Refusal::NoDaysServed)
         .refuse_if(raw.serial <= last, Refusal::SerialNotNew)
         .refuse_if(arrival.waits(kind), Refusal::CorrectionInRun)
         .refuse_if(Book::ENTRIES <= count as usize, Refusal::BookFull)

@@ -43,6 +43,7 @@ refusal-above no.RetentionEarly = omega arith
 refusal-above no.CorrectionInRun = omega arith
 refusal-above no.RunState = omega arith
 refusal-above no.SaveInRun = omega arith
+refusal-above no.NoDaysServed = omega arith
 
 pub is-refusal : (n : Refusal) → eqb (refusalNumber n) 0 ≡ false
 is-refusal n = ne-eqb (refusalNumber n) 0 (λ z. omega (arith, refusal-above n))

@@ -38,6 +38,7 @@ refusalNumber no.RetentionEarly = 26
 refusalNumber no.CorrectionInRun = 27
 refusalNumber no.RunState = 28
 refusalNumber no.SaveInRun = 29
+refusalNumber no.NoDaysServed = 30
 
 abbrev pub elseRefused : Check → Refusal → Check
 elseRefused Passed n = Refused n

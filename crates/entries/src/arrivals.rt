@@ -3,7 +3,7 @@ use crate::kinds::Kind;
 use crate::kinds::both;
 use crate::kinds::either;
 ghost use mathlib.Core.Path.{_≡_};
-ghost use Rattle.entries.specs.Arrivals.{isRecorded, isInRun, unknownTo, waitsFor};
+ghost use Rattle.entries.specs.Arrivals.{isRecorded, isInRun, unknownTo, noDayFor, waitsFor};
 
 pub enum Arrival {
     // By a posting or a carry-over, while no late-charge run is open.
@@ -43,6 +43,13 @@ impl Arrival {
             kind.is(Kind::Unknown),
             both(kind.is(Kind::LateCharge), !self.is_recorded()),
         )
+    }
+
+    // 30: a bill of zero days served is recorded only.
+    pub fn no_day(self, kind: Kind, served: u8) -> bool
+        ensures { λ r. ⌜ r ≡ noDayFor self kind served ⌝ }
+    {
+        both(both(kind.is(Kind::Bill), served == 0), !self.is_recorded())
     }
 
     // 27: a correction waits for the end of the run.

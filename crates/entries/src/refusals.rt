@@ -33,6 +33,7 @@ pub enum Refusal {
     CorrectionInRun,
     RunState,
     SaveInRun,
+    NoDaysServed,
 }
 
 // What the checks so far found.
@@ -76,6 +77,7 @@ impl Refusal {
             Refusal::CorrectionInRun => 27,
             Refusal::RunState => 28,
             Refusal::SaveInRun => 29,
+            Refusal::NoDaysServed => 30,
         }
     }
 }

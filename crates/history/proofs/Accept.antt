@@ -16,7 +16,7 @@ use Rattle.entries.specs.declared.kinds.Kind.{Kind}
 use Rattle.entries.specs.declared.kinds.Kind.the-variants as kind
 use Rattle.entries.proofs.Ranges.{inside, Ranged, ranged}
 use Rattle.entries.proofs.KindsLaws.{every-kind, same-kind, no-kind}
-use Rattle.history.specs.History.{accounts, entries, dated, refundEnd, History, lastSerial, namingGuarantee, naming, suits, Target, absent, present, find, named, Fate, fate, paidBy, guaranteeOpen, targetEntry, targetFate, Balance, moveOf, moveBy, balance, Rule, _⇒_, firstBroken, unknownSo, refusals, judgeBy, judge, lastDay}
+use Rattle.history.specs.History.{accounts, entries, dated, refundEnd, History, lastSerial, namingGuarantee, naming, suits, Target, absent, present, find, named, Fate, fate, paidBy, guaranteeOpen, targetEntry, targetFate, Balance, moveOf, moveBy, balance, Rule, _⇒_, firstBroken, unknownSo, noDaySo, refusals, judgeBy, judge, lastDay}
 use Rattle.history.specs.Laws.{Valid, empty, joins}
 
 pub or-left : (a b : Bool) → (a || b) ≡ false → a ≡ false
@@ -151,7 +151,12 @@ recorded w h r z =
     let k = kindOf (r .kind) in
     let table = refusals w h r k (targetEntry (named h r)) (targetFate h (named h r)) (balance h (r .account)) in
     let row : (n : ℕ) → rowOf n table .broken ≡ false = λ n. unbroken n table (omega arith) z in
-    rw (known w k (row 1)) (rw (row 1, row 27) at z)
+    rw (known w k (row 1)) (rw (row 1, row 30, row 27) at z)
+
+-- and is no bill of zero days served where such are stopped
+pub served : (w : Arrival) (h : History) (r : Raw) → judgeBy w h r ≡ 0 → noDaySo w (kindOf (r .kind)) (r .b) ≡ false
+unfolding judgeBy
+served w h r z = unbroken 30 (refusals w h r (kindOf (r .kind)) (targetEntry (named h r)) (targetFate h (named h r)) (balance h (r .account))) (omega arith) z
 
 pub fits : {h : History} → Valid h → length h ≤ entries
 fits empty = omega arith

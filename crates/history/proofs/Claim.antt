@@ -15,17 +15,19 @@ use Rattle.saves.specs.Saves.{saveOf, savedIn}
 use Rattle.queries.specs.Chain as chains
 use Rattle.carry.specs.Carry.{carryRefusalOf}
 use Rattle.history.specs.History.{History, answersAlong, heldOf, heldAmount, fate}
+use Rattle.history.specs.Laws.{In}
 use Rattle.history.specs.Runs.{State, arrivalIn}
 use Rattle.history.specs.Agreement.{keptEntry, over, KeptState}
 use Rattle.history.specs.Queries.{Query, statement, contribution, page, save, stated, given, paged, saved, saveIn, queryIn}
-use Rattle.history.specs.Calls.{Call, posting, carryOver, opening, step, close, query, posted, ran, queried, callIn, stateFrom, stateAfter, historyOf}
-use Rattle.history.specs.Claim.{queryOf, callOf, bookAfter, bookOf, guaranteeHeldOf, Demand3}
+use Rattle.history.specs.Calls.{Call, posting, carryOver, opening, step, close, query, posted, ran, queried, callIn, stateFrom, stateAfter, historyAfter}
+use Rattle.history.specs.Claim.{queryOf, callOf, bookAfter, guaranteeHeldOf, Claim, Demand3}
 use Rattle.history.proofs.Laws.{laws}
+use Rattle.history.proofs.Served.{call-adds}
 use Rattle.history.proofs.Tables.{kept-read}
 use Rattle.history.proofs.Agreement.{agreement}
 use Rattle.history.proofs.Carry.{posted-kept, posted-same, posted-run, results-same, carried-kept, carried-run}
 use Rattle.history.proofs.Runs.{open-same, arrival-same, kept-with, opening-same, step-same, close-same}
-use Rattle.history.proofs.Calls.{lists-same}
+use Rattle.history.proofs.Calls.{lists-same, along}
 use Rattle.history.proofs.Images.{save-same, saved-same}
 use Rattle.saves.proofs.Saves.{save-in-run}
 use Rattle.history.proofs.Queries.{chain-reads, reads-total, held-read, statement-same, contribution-same}
@@ -71,20 +73,24 @@ guarantee-read : (all h : History) (e : Raw) → guaranteeHeldOf (keptEntry all 
 unfolding guaranteeHeldOf entryOf
 guarantee-read all h e = ap (λ (n : Particulars). n .«guarantee_held» .0) (kept-read (kindOf (e .kind)) e (fate all e) _ _ .0)
 
-pub demand3 : Demand3
-demand3 cs =
-    let (k, answered) = calls-same fresh-kept cs in
+pub claim : {b : Book} {s : State} → KeptState b s → (cs : List Call) → Claim b s cs
+claim {b} {s} v cs =
+    let (k, answered) = calls-same v cs in
     let w = k .history in
-    let h = historyOf cs in
+    let h = historyAfter s cs in
     record {
       answered = answered;
       arrears = λ a l m. ap (λ (x : Account). x .arrears .0) (w .agrees .account a l m);
       credit = λ a l m. ap (λ (x : Account). x .credit .0) (w .agrees .account a l m);
       deposit = λ a l m. ap (λ (x : Account). x .deposit .0) (w .agrees .account a l m);
-      held = λ a l m. rw (agreement .chain (bookOf cs) h w a l m) (reads-total chains.heldOf heldAmount h (held-read h) (chain-reads h h a));
-      guarantee-held = λ a l m. rw (agreement .chain (bookOf cs) h w a l m) (reads-total guaranteeHeldOf (heldOf kind.Guarantee) h (guarantee-read h) (chain-reads h h a));
+      held = λ a l m. rw (agreement .chain (bookAfter b cs) h w a l m) (reads-total chains.heldOf heldAmount h (held-read h) (chain-reads h h a));
+      guarantee-held = λ a l m. rw (agreement .chain (bookAfter b cs) h w a l m) (reads-total guaranteeHeldOf (heldOf kind.Guarantee) h (guarantee-read h) (chain-reads h h a));
       kept = w;
       run = k .run;
       lawful = laws .lawful h (w .valid);
+      no-day = λ e m k z. along callIn (λ (s : State). In e (s .entries)) (call-adds e k z) s cs m;
       bounded = laws .bounded h (w .valid);
     }
+
+pub demand3 : Demand3
+demand3 cs = claim fresh-kept cs

@@ -26,16 +26,18 @@ use Rattle.image_carry.specs.Carries.{CarryExit, readEntries, carryRefusal, car
 use Rattle.image_read.specs.Reads.{statementImage, contributionImage}
 use Rattle.image_page.specs.Pages.{pageImage}
 use Rattle.history.specs.History.{History, offer, offers}
-use Rattle.history.specs.Laws.{Valid, empty, joins}
+use Rattle.history.specs.Laws.{Valid, empty, joins, In}
 use Rattle.history.specs.Images.{recordsBy, imageIn, bytesIn, shortIn, roomIn, savedBy, AllTyped}
 use Rattle.history.specs.Agreement.{Kept}
 use Rattle.history.specs.Trips.{historyIn}
 use Rattle.history.specs.Hosts.{HostQuery, check, statement, contribution, page, HostCall, posting, carryOver, query, queried, hostQueryOf, wrote, hostOf, freshImage, postRefusalIn, postIn, carryRefusalIn, carryIn, hostQueryIn, hostIn, Lent, AllLent, HostClaim, Demand3Hosts}
 use Rattle.history.proofs.Tests.{tested, either}
+use Rattle.history.proofs.Accept.{recorded}
 use Rattle.history.proofs.Laws.{offered, laws}
+use Rattle.history.proofs.Served.{host-adds}
 use Rattle.history.proofs.Carry.{replied-number, posted-kept, posted-same, posted-run, posts-same, results-same}
 use Rattle.history.proofs.Runs.{idle-run}
-use Rattle.history.proofs.Calls.{lists-same}
+use Rattle.history.proofs.Calls.{lists-same, along}
 use Rattle.history.proofs.Queries.{statement-same, contribution-same}
 use Rattle.history.proofs.Pages.{page-same}
 use Rattle.history.proofs.Images.{bytes-same, save-same, saved-same}
@@ -101,7 +103,7 @@ Sound h = Valid h × AllTyped h
 
 sound-offers : (rs : List Raw) (h : History) → AllTyped rs → Sound h → Sound (offers Posted h rs)
 sound-offers [] h t s = s
-sound-offers (r ∷ rs) h t s = sound-offers rs (offer Posted h r) (t .1) (offered Sound Posted h r (λ j. (joins (s .0) j, (t .0, s .1))) s)
+sound-offers (r ∷ rs) h t s = sound-offers rs (offer Posted h r) (t .1) (offered Sound Posted h r (λ j. (joins (s .0) (recorded Posted h r j), (t .0, s .1))) s)
 
 sound-next : (t : Bool) (rs : List Raw) (h : History) → AllTyped rs → Sound h → Sound (cond t (offers Posted h rs) h)
 sound-next true rs h g s = sound-offers rs h g s
@@ -151,6 +153,7 @@ hosted l h cs e s g =
       loads = rw (r .image, load) refl;
       kept = rw (r .image, load) (loads (r .sound .0) .kept);
       lawful = laws .lawful _ (r .sound .0);
+      no-day = λ x m k z. along hostIn (In x) (host-adds x k z) h cs m;
       bounded = laws .bounded _ (r .sound .0);
     }
 

@@ -5,7 +5,7 @@ use mathlib.Core.List.{List, [], _∷_}
 use native.Mathlib.Omega.{arith}
 use Rattle.entries.specs.declared.arrivals.Arrival.{Arrival}
 use Rattle.entries.specs.declared.raw.Raw.{Raw}
-use Rattle.history.specs.History.{History, judgeBy, judge, joined, offer, offers}
+use Rattle.history.specs.History.{History, judgeBy, joined, offer, offers}
 use Rattle.history.specs.Laws.{Valid, empty, joins, Lawful, Bounded, Laws}
 use Rattle.history.proofs.Accept.{recorded, fits}
 use Rattle.history.proofs.Names.{contributed, in-period, once}
@@ -40,18 +40,18 @@ within h v =
     }
 
 -- what holds of a history when an entry is offered
-pub offered : (P : History → Type 0) (w : Arrival) (h : History) (r : Raw) → (judge h r ≡ 0 → P (r ∷ h)) → P h → P (offer w h r)
+pub offered : (P : History → Type 0) (w : Arrival) (h : History) (r : Raw) → (judgeBy w h r ≡ 0 → P (r ∷ h)) → P h → P (offer w h r)
 unfolding offer
 offered P w h r joined-holds holds = go (judgeBy w h r) refl
   where
     go : (n : ℕ) → judgeBy w h r ≡ n → P (joined n r h)
-    go zero j = joined-holds (recorded w h r j)
+    go zero j = joined-holds j
     go (suc n) j = holds
 
 -- what offers give, from a valid history on
 pub valid-offers : (w : Arrival) {h : History} → Valid h → (rs : List Raw) → Valid (offers w h rs)
 valid-offers w v [] = v
-valid-offers w {h} v (r ∷ rs) = valid-offers w (offered Valid w h r (joins v) v) rs
+valid-offers w {h} v (r ∷ rs) = valid-offers w (offered Valid w h r (λ j. joins v (recorded w h r j)) v) rs
 
 pub laws : Laws
 laws = record { valid = λ w rs. valid-offers w empty rs; lawful = lawful; bounded = within }

@@ -18,10 +18,12 @@ pub mod Carry
 pub mod Runs
 pub mod Queries
 pub mod Pages
+pub mod Served
 pub mod Claim
 pub mod Trips
 pub mod Hosts
 pub mod PageFigures
 pub mod Witness
 pub mod RunFigures
+pub mod NoDayFigures
 pub mod Cited

@@ -164,7 +164,7 @@ module _ {b : Book} {h : History} (w : Agrees b h) (v : Valid h) where
       go true = rw (walk h (b .entries) (r .account) (w .rows) (fits v) entries (fits v)) (finds h h r)
       go false = rw (walk-zero (b .entries) entries) neither
 
-  -- what is left of the book's table after 1 to 7 and 27 is what is left of the history's
+  -- what is left of the book's table after 1 to 7, 30 and 27 is what is left of the history's
   pub state-same : (way : Arrival) (r : Raw) → between (r .account) 1 accounts ≡ true → r .day ≤ lastDay → let k = kindOf (r .kind) in
       Same (rows r k (accountAt b (r .account)) (namesOf k) (lookupOf b r))
       (rowsFrom 8 (refusals way h r k (targetEntry (named h r)) (targetFate h (named h r)) (balance h (r .account))))

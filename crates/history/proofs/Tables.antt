@@ -12,7 +12,7 @@ use Rattle.measures.specs.Days.{day, lastDay}
 use Rattle.measures.specs.declared.Cents.{Cents}
 use Rattle.calendar.specs.Periods.{yearsOn}
 use Rattle.calendar.proofs.Calendar.{calendar}
-use Rattle.entries.specs.Arrivals.{unknownTo, waitsFor}
+use Rattle.entries.specs.Arrivals.{unknownTo, noDayFor, waitsFor}
 use Rattle.entries.specs.Kinds.{kindOf, namesOf, misnamesOf, sameOf}
 use Rattle.entries.specs.Ranges.{between}
 use Rattle.entries.specs.Refusals.{refusalNumber, refuseIf, decidedOf}
@@ -36,7 +36,7 @@ use Rattle.changes.specs.declared.Decision.the-variants.{Refused, Accepted}
 use Rattle.rules.specs.declared.accounts.Account.{Account}
 use Rattle.book.specs.Chain as chains
 use Rattle.book.specs.Refusals.{entryRows, checkEntryOf, searchedOf, decisionBy}
-use Rattle.history.specs.History.{History, accounts, entries, refundYears, guaranteeYears, dated, datedAfter, namingGuarantee, naming, suits, lastSerial, absent, Fate, fate, guaranteeOpen, targetEntry, targetFate, Balance, Rule, firstBroken, unknownSo, waitsSo, refusals, toArrears, refundsPaid}
+use Rattle.history.specs.History.{History, accounts, entries, refundYears, guaranteeYears, dated, datedAfter, namingGuarantee, naming, suits, lastSerial, absent, Fate, fate, guaranteeOpen, targetEntry, targetFate, Balance, Rule, firstBroken, unknownSo, noDaySo, waitsSo, refusals, toArrears, refundsPaid}
 use Rattle.history.specs.Agreement.{keptAccount, keptData, keptEntry}
 use Rattle.history.proofs.Tests.{tested}
 use Rattle.history.proofs.Accept.{unsuited}
@@ -143,6 +143,11 @@ unknown-same Recorded k = go (sameOf k kind.Unknown) (sameOf k kind.LateCharge)
     go false true = refl
     go false false = refl
 
+no-day-same : (w : Arrival) (k : Kind) (served : ℕ) → noDayFor w k served ≡ noDaySo w k served
+no-day-same Posted k served = and-true (sameOf k kind.Bill && eqb served 0)
+no-day-same PostedInRun k served = and-true (sameOf k kind.Bill && eqb served 0)
+no-day-same Recorded k served = and-false (sameOf k kind.Bill && eqb served 0)
+
 waits-same : (w : Arrival) (k : Kind) → waitsFor w k ≡ waitsSo w k
 waits-same Posted k = and-false (sameOf k kind.Correction)
 waits-same PostedInRun k = and-true (sameOf k kind.Correction)
@@ -189,7 +194,7 @@ kept-read kind.Reduction e f s p = (refl, λ A g x. refl)
 kept-read kind.Retention e f s p = (refl, λ A g x. refl)
 kept-read kind.LateCharge e f s p = (refl, λ A g x. refl)
 
--- what is left of the table after 1 to 7 and 27, for the entry that r names or none, and what an entry does that passes it
+-- what is left of the table after 1 to 7, 30 and 27, for the entry that r names or none, and what an entry does that passes it
 abbrev pub rows : Raw → Kind → Account → Bool → chains.Sought → List checks.Row
 rows r k acc false s = ownRows r k acc
 rows r k acc true chains.missing = record { broken = true; refusal = no.NotOnChain } ∷ []
@@ -327,11 +332,14 @@ module _ (w : Arrival) (h : History) (r : Raw) (k : Kind) (count last : ℕ) (re
               λ day. (
                 refl,
                 λ t. (
-                  ap (λ n. leb (r .serial) n) (lasts (not-false _ node)),
+                  no-day-same w k (r .b),
                   λ t. (
-                    waits-same w k,
-                    λ t.
-                        (ap (λ n. leb entries n) counted, λ t. state (not-false _ account) (ltb-false _ _ day)),
+                    ap (λ n. leb (r .serial) n) (lasts (not-false _ node)),
+                    λ t. (
+                      waits-same w k,
+                      λ t.
+                          (ap (λ n. leb entries n) counted, λ t. state (not-false _ account) (ltb-false _ _ day)),
+                    ),
                   ),
                 ),
               ),

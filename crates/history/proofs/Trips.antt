@@ -32,7 +32,7 @@ use Rattle.history.specs.Laws.{Valid, empty, joins}
 use Rattle.history.specs.Images.{newestOf, recordsBy, imageIn, bytesIn, Typed, AllTyped}
 use Rattle.history.specs.Agreement.{Kept, over, KeptState}
 use Rattle.history.specs.Calls.{stateFrom}
-use Rattle.history.specs.Trips.{historyIn, recordedOf, Trips}
+use Rattle.history.specs.Trips.{historyIn, recordedOf, Trips, Demand3Loaded}
 use Rattle.history.proofs.Tests.{tested}
 use Rattle.history.proofs.Accept.{accepts, fits}
 use Rattle.history.proofs.Agreement.{agreement}
@@ -40,7 +40,7 @@ use Rattle.history.proofs.Determined.{determined}
 use Rattle.history.proofs.Images.{image-kept}
 use Rattle.history.proofs.Carry.{number-same}
 use Rattle.history.proofs.Runs.{idle-run, idle-over, idle-entered, charge-typed}
-use Rattle.history.proofs.Claim.{calls-same, fresh-kept}
+use Rattle.history.proofs.Claim.{calls-same, fresh-kept, claim}
 
 -- ONE RECORD
 
@@ -197,3 +197,6 @@ trips =
       loaded-on = λ l e cs t. saved _ _ (calls-same (loaded-state l e) cs .0 .history) t;
       loaded-whole = λ l e cs o. idle-over (calls-same (loaded-state l e) cs .0 .run) o;
     }
+
+pub demand3-loaded : Demand3Loaded
+demand3-loaded l e cs = claim (loaded-state l e) cs

@@ -43,12 +43,15 @@ stateFrom h = stateWith h noRun
 abbrev pub stateAfter : State → List Call → State
 stateAfter s cs = after callIn s cs
 
+abbrev pub historyAfter : State → List Call → History
+historyAfter s cs = stateAfter s cs .entries
+
 -- the state after a list of calls, which begins empty and with no run, and the answer to each at its point
 abbrev pub stateOf : List Call → State
 stateOf cs = stateAfter (stateFrom []) cs
 
 abbrev pub historyOf : List Call → History
-historyOf cs = stateOf cs .entries
+historyOf cs = historyAfter (stateFrom []) cs
 
 abbrev pub answersIn : List Call → List CallAnswer
 answersIn cs = answersAlong callIn (stateFrom []) cs

@@ -1,8 +1,10 @@
 -- Demand 3: one claim about a list of calls as a whole.
 use Prim.Native.Nat.{ℕ, _≤_}
 use mathlib.Core.Path.{_≡_}
-use mathlib.Core.List.{List}
+use mathlib.Core.List.{List, []}
+use Rattle.entries.specs.Kinds.{kindOf}
 use Rattle.entries.specs.Data.{particularsOf}
+use Rattle.entries.specs.declared.raw.Raw.{Raw}
 use Rattle.entries.specs.declared.kinds.Kind.the-variants as kind
 use Rattle.entries.specs.declared.data.Entry.{Entry}
 use Rattle.book.specs.Fresh.{freshBook}
@@ -15,12 +17,13 @@ use Rattle.queries.specs.Contributions.{contributionQueryOf}
 use Rattle.pages.specs.Pages.{pageOf}
 use Rattle.saves.specs.Saves.{saveOf, savedIn}
 use Rattle.history.specs.History.{accounts, after, answersAlong, balance, entriesOf, total, heldOf, heldAmount}
-use Rattle.history.specs.Laws.{Lawful, Bounded}
+use Rattle.history.specs.Laws.{In, Lawful, Bounded}
+use Rattle.history.specs.Runs.{State}
 use Rattle.history.specs.Agreement.{Kept, RunKept}
 use Rattle.carry.specs.Carry.{carryRefusalOf, carryBookOf, carryResultsOf}
 use Rattle.runs.specs.Runs.{openRunOf, stepOf, closeRunOf}
 use Rattle.history.specs.Queries.{Query, statement, contribution, page, save, QueryAnswer, stated, given, paged, saved}
-use Rattle.history.specs.Calls.{Call, posting, carryOver, opening, step, close, query, CallAnswer, posted, carried, ran, queried, answersIn, stateOf, historyOf}
+use Rattle.history.specs.Calls.{Call, posting, carryOver, opening, step, close, query, CallAnswer, posted, carried, ran, queried, callIn, stateFrom, stateAfter, historyAfter}
 
 -- the queries on a book
 unfoldable pub queryOf : Book → Query → QueryAnswer
@@ -52,31 +55,34 @@ answersOf cs = answersAlong callOf freshBook cs
 unfoldable pub guaranteeHeldOf : Entry → ℕ
 guaranteeHeldOf e = particularsOf (e .«data») .«guarantee_held» .0
 
-pub record Claim (cs : List Call) : Type 0 where
+-- of a list of calls, cs, that begins with the book b and with the history's state s
+pub record Claim (b : Book) (s : State) (cs : List Call) : Type 0 where
   -- Every answer in the list is the history's at that point: an offered entry's refusal number is 0 exactly when it joins; which
   -- calls are refused, which statements are complete and an accepted posting's four amounts; and what every accepted statement,
   -- contribution query, page and save gives, a page's and a save's buffer among it.
-  pub answered : answersOf cs ≡ answersIn cs
+  pub answered : answersAlong callOf b cs ≡ answersAlong callIn s cs
   -- the book after the list has the history's arrears
-  pub arrears : (a : ℕ) → 1 ≤ a → a ≤ accounts → accountAt (bookOf cs) a .arrears .0 ≡ balance (historyOf cs) a .arrears
+  pub arrears : (a : ℕ) → 1 ≤ a → a ≤ accounts → accountAt (bookAfter b cs) a .arrears .0 ≡ balance (historyAfter s cs) a .arrears
   -- its credit
-  pub credit : (a : ℕ) → 1 ≤ a → a ≤ accounts → accountAt (bookOf cs) a .credit .0 ≡ balance (historyOf cs) a .credit
+  pub credit : (a : ℕ) → 1 ≤ a → a ≤ accounts → accountAt (bookAfter b cs) a .credit .0 ≡ balance (historyAfter s cs) a .credit
   -- its amounts held: the deposit
-  pub deposit : (a : ℕ) → 1 ≤ a → a ≤ accounts → accountAt (bookOf cs) a .deposit .0 ≡ balance (historyOf cs) a .deposit
+  pub deposit : (a : ℕ) → 1 ≤ a → a ≤ accounts → accountAt (bookAfter b cs) a .deposit .0 ≡ balance (historyAfter s cs) a .deposit
   -- and what is held of the account's contributions
-  pub held : (a : ℕ) → 1 ≤ a → a ≤ accounts → totalOf chains.heldOf (chainAt (bookOf cs) a) ≡ total heldAmount (historyOf cs) (entriesOf (historyOf cs) a)
+  pub held : (a : ℕ) → 1 ≤ a → a ≤ accounts → totalOf chains.heldOf (chainAt (bookAfter b cs) a) ≡ total heldAmount (historyAfter s cs) (entriesOf (historyAfter s cs) a)
   -- and of its guarantees
   pub guarantee-held : (a : ℕ) → 1 ≤ a → a ≤ accounts →
-      totalOf guaranteeHeldOf (chainAt (bookOf cs) a) ≡ total (heldOf kind.Guarantee) (historyOf cs) (entriesOf (historyOf cs) a)
+      totalOf guaranteeHeldOf (chainAt (bookAfter b cs) a) ≡ total (heldOf kind.Guarantee) (historyAfter s cs) (entriesOf (historyAfter s cs) a)
   -- it keeps the history's entries, chains and last serials too
-  pub kept : Kept (bookOf cs) (historyOf cs)
+  pub kept : Kept (bookAfter b cs) (historyAfter s cs)
   -- and its run: the same node, day and rate, and the same accounts left with the same noted arrears
-  pub run : RunKept (bookOf cs .run) (bookOf cs .noted) (stateOf cs .run)
+  pub run : RunKept (bookAfter b cs .run) (bookAfter b cs .noted) (stateAfter s cs .run)
   -- the claims of the history: sums, contributions, refunds with their days, guarantees, corrections
-  pub lawful : Lawful (historyOf cs)
+  pub lawful : Lawful (historyAfter s cs)
+  -- a bill of zero days served that the history has after the list was there before it: none joins
+  pub no-day : (e : Raw) → In e (historyAfter s cs) → kindOf (e .kind) ≡ kind.Bill → e .b ≡ 0 → In e (s .entries)
   -- bounds within which no sum saturates
-  pub bounded : Bounded (historyOf cs)
+  pub bounded : Bounded (historyAfter s cs)
 
--- proofs/Claim.antt shows it
+-- every list from a fresh book: proofs/Claim.antt shows it
 abbrev pub Demand3 : Type 0
-Demand3 = (cs : List Call) → Claim cs
+Demand3 = (cs : List Call) → Claim freshBook (stateFrom []) cs

@@ -307,11 +307,16 @@ abbrev pub firstBroken : List Rule → ℕ
 firstBroken [] = 0
 firstBroken (x ∷ xs) = cond (x .broken) (x .number) (firstBroken xs)
 
--- a late charge is recorded, and not posted or carried over; a correction is not posted during a run
+-- a late charge and a bill of zero days served are recorded, and not posted or carried over; a correction is not posted during a run
 abbrev pub unknownSo : Arrival → Kind → Bool
 unknownSo Posted k = sameOf k kind.Unknown || sameOf k kind.LateCharge
 unknownSo PostedInRun k = sameOf k kind.Unknown || sameOf k kind.LateCharge
 unknownSo Recorded k = sameOf k kind.Unknown
+
+abbrev pub noDaySo : Arrival → Kind → ℕ → Bool
+noDaySo Posted k served = sameOf k kind.Bill && eqb served 0
+noDaySo PostedInRun k served = sameOf k kind.Bill && eqb served 0
+noDaySo Recorded k served = false
 
 abbrev pub waitsSo : Arrival → Kind → Bool
 waitsSo Posted k = false
@@ -327,6 +332,7 @@ refusals w h r k e f b =
     (not (between (r .account) 1 accounts) ⇒ 3) ∷
     (ltb lastDay (r .day) ⇒ 4) ∷
     (not (inRangeOf r k) ⇒ 5) ∷
+    (noDaySo w k (r .b) ⇒ 30) ∷
     (leb (r .serial) (lastSerial h (r .node)) ⇒ 6) ∷
     (waitsSo w k ⇒ 27) ∷
     (leb entries (length h) ⇒ 7) ∷

@@ -5,7 +5,10 @@ use mathlib.Core.Bool.{cond}
 use mathlib.Core.List.{List, [], _∷_, _++_}
 use lib.ListN.{length, take, replicate}
 use lib.Dec.{eqb}
+use Rattle.entries.specs.Kinds.{kindOf}
 use Rattle.entries.specs.declared.arrivals.Arrival.the-variants.{Posted}
+use Rattle.entries.specs.declared.raw.Raw.{Raw}
+use Rattle.entries.specs.declared.kinds.Kind.the-variants as kind
 use Rattle.codec.specs.Bytes.{Bytes}
 use Rattle.codec.specs.Headers.{mark}
 use Rattle.replays.specs.Loaded.{LoadedReply}
@@ -20,7 +23,7 @@ use Rattle.image_read.specs.declared.checks.CheckGiven.{CheckGiven}
 use Rattle.image_read.specs.declared.reads.StatementGiven.{StatementGiven}
 use Rattle.image_read.specs.declared.reads.ContributionGiven.{ContributionGiven}
 use Rattle.history.specs.History.{History, after, answersAlong, judgeBy, offer, offers, repliedOf, resultsRefusal, carryVerdicts}
-use Rattle.history.specs.Laws.{Lawful, Bounded}
+use Rattle.history.specs.Laws.{In, Lawful, Bounded}
 use Rattle.history.specs.Queries.{statementIn, contributionIn, pageIn}
 use Rattle.history.specs.Images.{imageIn, bytesIn, roomIn, savedBy}
 use Rattle.history.specs.Agreement.{Kept}
@@ -136,6 +139,8 @@ pub record HostClaim (l : List ℕ) (h : History) (cs : List HostCall) : Type 0 
   pub kept : Kept (loadOf (after hostOf l cs) .book) (after hostIn h cs)
   -- the history's sums, and no two corrections on one account that name the same entry
   pub lawful : Lawful (after hostIn h cs)
+  -- no bill of zero days served joins
+  pub no-day : (e : Raw) → In e (after hostIn h cs) → kindOf (e .kind) ≡ kind.Bill → e .b ≡ 0 → In e h
   -- and bounds against saturation
   pub bounded : Bounded (after hostIn h cs)
 

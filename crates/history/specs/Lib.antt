@@ -12,3 +12,4 @@ pub mod Hosts
 pub mod PageFigures
 pub mod Witness
 pub mod RunFigures
+pub mod NoDayFigures

@@ -1,4 +1,4 @@
--- Round trips, for every list of calls and for every image that loads.
+-- Round trips, for every list of calls and for every image that loads, and demand 3 of a loaded book.
 use mathlib.Core.Path.{_≡_}
 use mathlib.Core.Bool.{false}
 use mathlib.Core.List.{List, [], _∷_, map, reverse}
@@ -16,8 +16,8 @@ use Rattle.history.specs.History.{History}
 use Rattle.history.specs.Images.{Typed, AllTyped, imageIn}
 use Rattle.history.specs.Agreement.{Kept}
 use Rattle.history.specs.Runs.{Noted, isOpen, chargeIn, stepRefusal}
-use Rattle.history.specs.Calls.{Call, stateFrom, stateAfter, stateOf, historyOf}
-use Rattle.history.specs.Claim.{bookAfter, bookOf}
+use Rattle.history.specs.Calls.{Call, stateFrom, stateAfter, stateOf, historyAfter, historyOf}
+use Rattle.history.specs.Claim.{bookAfter, bookOf, Claim}
 
 -- the history of an image: the entries of its records, newest first
 abbrev pub historyIn : List ℕ → History
@@ -45,7 +45,11 @@ pub record Trips : Type 0 where
   pub loaded-idle : (l : List ℕ) → loadOf l .refusal ≡ 0 → withoutRun (loadOf l .book) ≡ loadOf l .book
   pub loaded-kept : (l : List ℕ) → loadOf l .refusal ≡ 0 → Kept (loadOf l .book) (historyIn l)
   -- a book that was loaded and on which calls were made loads from its image as the same book without its run, and whole where none is open
-  pub loaded-on : (l : List ℕ) → loadOf l .refusal ≡ 0 → (cs : List Call) → AllTyped (stateAfter (stateFrom (historyIn l)) cs .entries) →
+  pub loaded-on : (l : List ℕ) → loadOf l .refusal ≡ 0 → (cs : List Call) → AllTyped (historyAfter (stateFrom (historyIn l)) cs) →
       loadOf (imageOf (bookAfter (loadOf l .book) cs)) ≡ acceptedLoad (withoutRun (bookAfter (loadOf l .book) cs))
   pub loaded-whole : (l : List ℕ) → loadOf l .refusal ≡ 0 → (cs : List Call) → isOpen (stateAfter (stateFrom (historyIn l)) cs .run) ≡ false →
       withoutRun (bookAfter (loadOf l .book) cs) ≡ bookAfter (loadOf l .book) cs
+
+-- every list of calls on the book of an image that loads, from the history of its records on: proofs/Trips.antt shows it
+abbrev pub Demand3Loaded : Type 0
+Demand3Loaded = (l : List ℕ) → loadOf l .refusal ≡ 0 → (cs : List Call) → Claim (loadOf l .book) (stateFrom (historyIn l)) cs

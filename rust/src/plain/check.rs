@@ -1,4 +1,4 @@
-//! Refusals 1 to 16 and 24 to 27, in checking order.
+//! Refusals 1 to 16, 24 to 27 and 30, in checking order.
 
 use super::*;
 
@@ -49,7 +49,8 @@ pub(super) fn is_node(node: u8) -> bool {
     node == 1 || node == 2
 }
 
-/// Refusals 1 to 5: what the entry's own fields decide.
+/// Refusals 1 to 5 and 30: what the entry's own fields and how it comes in
+/// decide.
 fn check_fields(raw: &Raw, incoming: Incoming) -> Result<(), u8> {
     let last_kind = match incoming {
         Incoming::Posted => LAST_POSTED_KIND,
@@ -59,7 +60,9 @@ fn check_fields(raw: &Raw, incoming: Incoming) -> Result<(), u8> {
     refuse(!is_node(raw.node), 2)?;
     refuse(!is_account(raw.account), 3)?;
     refuse(raw.day > LAST_DAY, 4)?;
-    refuse(!in_range(raw), 5)
+    refuse(!in_range(raw), 5)?;
+    let no_day = raw.kind == BILL && raw.b == 0;
+    refuse(no_day && incoming == Incoming::Posted, 30)
 }
 
 /// Whether every field but the serial is in the range of the entry's kind.

@@ -22,8 +22,8 @@ const LEAP_DAYS_APART: u16 = 1_461;
 const LEAP_DAYS: u16 = 25;
 
 /// What an entry can be refused by where no run is open.
-pub const REFUSALS: [u8; 19] = [
-    1, 2, 3, 4, 5, 6, 7, 8, 9, 10, 11, 12, 13, 14, 15, 16, 24, 25, 26,
+pub const REFUSALS: [u8; 20] = [
+    1, 2, 3, 4, 5, 6, 7, 8, 9, 10, 11, 12, 13, 14, 15, 16, 24, 25, 26, 30,
 ];
 
 /// What the entries of a list are drawn from.
@@ -32,6 +32,8 @@ pub struct Pool {
     /// The kinds, the more frequent ones more than once.
     kinds: Vec<u8>,
     least_amount: u32,
+    /// Every bill is of zero days served.
+    no_day: bool,
 }
 
 impl Pool {
@@ -50,15 +52,17 @@ impl Pool {
             accounts,
             kinds,
             least_amount: random.pick(&[1, 1, 1, AMOUNT_MOST / 10 * 9]),
+            no_day: false,
         }
     }
 
-    /// The same with entries of one kind alone.
-    pub fn of_kind(&self, kind: u8) -> Pool {
+    /// The same with entries of one kind alone; bills are of zero days served.
+    pub fn recorded(&self, kind: u8) -> Pool {
         Pool {
             accounts: self.accounts.clone(),
             kinds: vec![kind],
             least_amount: self.least_amount,
+            no_day: true,
         }
     }
 
@@ -144,11 +148,20 @@ pub fn named<'a>(raw: &Raw, before: &'a [Raw]) -> Option<&'a Raw> {
         .find(|named| (named.node, named.serial) == pair)
 }
 
-/// Whether the entry's kind names one, and it names a late charge of its account
+pub fn is_late_charge(raw: &Raw) -> bool {
+    raw.kind == LATE_CHARGE
+}
+
+/// Whether it is a bill of zero days served.
+pub fn is_for_no_day(raw: &Raw) -> bool {
+    raw.kind == BILL && raw.b == 0
+}
+
+/// Whether the entry's kind names one, and it names such an entry of its account
 /// among these.
-pub fn names_late_charge(raw: &Raw, before: &[Raw]) -> bool {
+pub fn names_one(raw: &Raw, before: &[Raw], is_one: impl Fn(&Raw) -> bool) -> bool {
     let named = named(raw, before).filter(|_| needs_name(raw.kind));
-    named.is_some_and(|named| named.kind == LATE_CHARGE && named.account == raw.account)
+    named.is_some_and(|named| is_one(named) && named.account == raw.account)
 }
 
 /// The entry that a new one of this kind is about: mostly one that it may
@@ -281,6 +294,7 @@ fn fields(random: &mut Random, pool: &Pool, kind: u8, earlier: Option<Raw>) -> R
     let (amount, a, b) = match kind {
         CONTRIBUTION => (amount, random.sized(u16::MAX), phases(random)),
         ADDED_CUSTOMER => (0, metres_shared(random, earlier), phases(random)),
+        BILL if pool.no_day || random.one_in(8) => (amount, random.within(1..=MAX_PERIOD), 0),
         BILL if random.one_in(4) => half_bill(random, amount),
         BILL => {
             let period = random.within(1..=MAX_PERIOD);

@@ -1,5 +1,5 @@
-//! A plain book and the entries that it accepted, in order, late charges as
-//! records alone.
+//! A plain book and the entries that it accepted, in order, late charges and
+//! bills of zero days served as records alone.
 
 use contribution_book::plain::*;
 

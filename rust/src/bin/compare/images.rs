@@ -4,7 +4,7 @@ use crate::entries::{self, Pool, REFUSALS};
 use crate::history::History;
 use crate::random::Random;
 use contribution_book::plain::{
-    parse_record, write_record, Incoming, Raw, ENTRIES, LATE_CHARGE, LONGEST_IMAGE, RECORD,
+    parse_record, write_record, Incoming, Raw, BILL, ENTRIES, LATE_CHARGE, LONGEST_IMAGE, RECORD,
 };
 
 /// How an image came about.
@@ -98,16 +98,17 @@ fn other_count(random: &mut Random, mut image: Vec<u8>) -> Vec<u8> {
 }
 
 /// An entry made for the history up to its place, where it may be refused by
-/// any number of a posting, more often by one that few entries meet, or is a late
-/// charge and refused by its fields or its serial; with the next index that it
-/// would get. The records after it stay or are left out.
+/// any number of a posting, 7 and 30 apart, more often by one that few entries
+/// meet, or is a late charge or a bill of zero days served and refused by its
+/// fields or its serial; with the next index that it would get. The records after
+/// it stay or are left out.
 fn other_entry(random: &mut Random, pool: &Pool, history: &History) -> Vec<u8> {
     let count = history.entries().len();
     let place = random.below((count + 1).min(ENTRIES));
     let before = history.first(place);
-    let late_charges = pool.of_kind(LATE_CHARGE);
+    let recorded = pool.recorded(random.pick(&[LATE_CHARGE, BILL]));
     let (pool, refusal) = match random.below(16) {
-        0 => (&late_charges, random.within(2..=6)),
+        0 => (&recorded, random.within(2..=6)),
         1..=7 => (pool, random.pick(&REFUSALS)),
         _ => (pool, random.pick(&[11, 12, 13, 14, 14, 15, 15, 16, 25, 26])),
     };

@@ -1,13 +1,14 @@
 //! What was tried: calls, images and entries by kind and by refusal number, late
-//! charges, entries at a half, and entries at the end of a period.
+//! charges, bills of zero days served, entries at a half, and entries at the end
+//! of a period.
 
 use crate::call::{Call, Request, KINDS};
-use crate::entries::names_late_charge;
+use crate::entries::{is_for_no_day, is_late_charge, names_one};
 use crate::expected::Expected;
 use crate::periods::{self, Period};
 use crate::{halves, images};
 use contribution_book::plain::{
-    parse_record, Raw, ADDED_CUSTOMER, ENTRIES, LAST_KIND, LAST_POSTED_KIND, LATE_CHARGE, RECORD,
+    parse_record, Raw, ADDED_CUSTOMER, ENTRIES, LAST_KIND, LAST_POSTED_KIND, RECORD,
 };
 use std::fmt;
 
@@ -19,13 +20,13 @@ const LEAST: u64 = 100;
 const LEAST_CALLS: u64 = 100_000;
 
 /// Refusal numbers that calls give are below this; 0 is for accepted.
-const NUMBERS: u8 = 27;
+const NUMBERS: u8 = 31;
 
 /// Whether a refusal number can be met.
 type Possible = fn(u8) -> bool;
 
-const OF_ENTRIES: Possible = |number| matches!(number, 0..=16 | 24..=26);
-/// By an image. 7 can't: 17 comes before it.
+const OF_ENTRIES: Possible = |number| matches!(number, 0..=16 | 24..=26 | 30);
+/// By an image. 7 can't: 17 comes before it. 30 can't: it stops no record.
 const OF_IMAGES: Possible = |number| matches!(number, 0..=6 | 8..=20 | 24..=26);
 /// By each kind of call on an accepted image.
 const OF_CALLS: [Possible; KINDS.len()] = [
@@ -94,26 +95,64 @@ impl Met {
     }
 }
 
-/// Late charges, and entries that name one of their account.
-struct LateCharges {
-    charges: Met,
+/// Entries that are judged by how they come in.
+const SORTS: [&str; 2] = ["late charge", "bill for no day"];
+
+/// The entries of one of `SORTS`, and entries that name one of their account.
+struct Sort {
+    is_one: fn(&Raw) -> bool,
+    entries: Met,
     naming: Met,
 }
 
-impl LateCharges {
-    fn none(of_charges: Possible) -> LateCharges {
-        LateCharges {
-            charges: Met::none(of_charges),
-            naming: Met::none(|number| number == 8),
+impl Sort {
+    fn none(is_one: fn(&Raw) -> bool, of_entries: Possible, of_naming: Possible) -> Sort {
+        Sort {
+            is_one,
+            entries: Met::none(of_entries),
+            naming: Met::none(of_naming),
+        }
+    }
+
+    /// Of each sort, as `Tally::offered` has them.
+    fn offered() -> [Sort; SORTS.len()] {
+        [
+            Sort::none(is_late_charge, |number| number == 1, |number| number == 8),
+            Sort::none(
+                is_for_no_day,
+                |number| number == 30,
+                |number| matches!(number, 0 | 16),
+            ),
+        ]
+    }
+
+    /// Of each sort, as `Tally::in_images` has them.
+    fn in_images() -> [Sort; SORTS.len()] {
+        // 7 can't, as in `OF_IMAGES`.
+        let of_records = |number| matches!(number, 0 | 2..=6 | 20);
+        [
+            Sort::none(is_late_charge, of_records, |number| number == 8),
+            Sort::none(is_for_no_day, of_records, |number| number == 0),
+        ]
+    }
+
+    /// Counts an accepted image with these entries.
+    fn add_image(&mut self, entries: &[Raw]) {
+        let is_one = self.is_one;
+        if entries.iter().any(is_one) {
+            self.entries.add(0);
+        }
+        if entries.iter().any(|raw| names_one(raw, entries, is_one)) {
+            self.naming.add(0);
         }
     }
 
     /// Counts an entry that comes after these.
     fn add(&mut self, raw: &Raw, before: &[Raw], refusal: u8) {
-        if raw.kind == LATE_CHARGE {
-            self.charges.add(refusal);
+        if (self.is_one)(raw) {
+            self.entries.add(refusal);
         }
-        if names_late_charge(raw, before) {
+        if names_one(raw, before, self.is_one) {
             self.naming.add(refusal);
         }
     }
@@ -145,10 +184,10 @@ pub struct Tally {
     halves: [[u64; 2]; ENTRY_KINDS.len()],
     /// Entries at the end of each of `Period::ALL`, by `periods::KINDS`.
     ends: [[AtEnd; periods::KINDS.len()]; Period::ALL.len()],
-    /// Posted or carried over.
-    late_offered: LateCharges,
-    /// Accepted images with a late charge, and records at fault.
-    late_in_images: LateCharges,
+    /// Each sort, posted or carried over.
+    offered: [Sort; SORTS.len()],
+    /// Each sort in accepted images, which are counted, and as records at fault.
+    in_images: [Sort; SORTS.len()],
 }
 
 impl Tally {
@@ -162,9 +201,8 @@ impl Tally {
             entry_kinds: [[0; 2]; ENTRY_KINDS.len()],
             halves: [[0; 2]; ENTRY_KINDS.len()],
             ends: [[[0; 3]; periods::KINDS.len()]; Period::ALL.len()],
-            late_offered: LateCharges::none(|number| number == 1),
-            // 7 can't, as in `OF_IMAGES`.
-            late_in_images: LateCharges::none(|number| matches!(number, 0 | 2..=6 | 20)),
+            offered: Sort::offered(),
+            in_images: Sort::in_images(),
         }
     }
 
@@ -193,7 +231,9 @@ impl Tally {
         if let Some(place) = usize::from(expected.record).checked_sub(1) {
             let entries = images::entries_of(image);
             let (before, from) = entries.split_at(place);
-            self.late_in_images.add(&from[0], before, expected.refusal);
+            for sort in &mut self.in_images {
+                sort.add(&from[0], before, expected.refusal);
+            }
             self.count_end(&from[0], before, expected.refusal, IN_IMAGE);
         }
     }
@@ -201,8 +241,8 @@ impl Tally {
     /// Counts the entries that an accepted image has and was offered.
     fn count_entries(&mut self, call: &Call, refusal: u8) {
         let mut before = images::entries_of(call.image.bytes());
-        if before.iter().any(|raw| raw.kind == LATE_CHARGE) {
-            self.late_in_images.charges.add(0);
+        for sort in &mut self.in_images {
+            sort.add_image(&before);
         }
         match &call.request {
             Request::Post { entry, .. } if OF_ENTRIES(refusal) => {
@@ -229,7 +269,9 @@ impl Tally {
         let row = if kind < ENTRY_KINDS.len() { kind } else { 0 };
         let judged = usize::from(refusal != 0);
         self.entry_kinds[row][judged] += 1;
-        self.late_offered.add(&raw, before, refusal);
+        for sort in &mut self.offered {
+            sort.add(&raw, before, refusal);
+        }
         self.count_end(&raw, before, refusal, judged);
         if refusal != 0 {
             return;
@@ -283,10 +325,12 @@ impl Tally {
             add(calls, name);
         }
         add(&self.carried, "entry carried");
-        add(&self.late_offered.charges, "late charge offered");
-        add(&self.late_offered.naming, "late charge named");
-        add(&self.late_in_images.charges, "late charge in an image");
-        add(&self.late_in_images.naming, "late charge named in an image");
+        for (name, columns) in self.sorts() {
+            let ways = ["offered", "named", "in an image", "named in an image"];
+            for (way, met) in ways.iter().zip(&columns) {
+                add(met, &format!("{name} {way}"));
+            }
+        }
         let kinds = ENTRY_KINDS.iter().zip(self.entry_kinds);
         let kinds = kinds.take(LAST_POSTED_KIND as usize + 1).skip(1);
         tried.extend(kinds.map(|(name, [accepted, _])| (format!("{name}: accepted"), accepted)));
@@ -301,24 +345,39 @@ impl Tally {
         tried
     }
 
-    fn write_late_charges(&self, out: &mut fmt::Formatter) -> fmt::Result {
-        writeln!(
-            out,
-            "\nLate charges, and entries that name one of their account,"
-        )?;
-        writeln!(
-            out,
-            "posted or carried over and in images, by refusal number"
-        )?;
-        let names = ["charge", "naming", "image: charge", "image: naming"];
-        let [offered, in_images] = [&self.late_offered, &self.late_in_images];
-        let columns = [
-            offered.charges,
-            offered.naming,
-            in_images.charges,
-            in_images.naming,
-        ];
-        write_met(out, &names, &columns)
+    /// The name of each sort, and what was met: its entries and those that name
+    /// one, offered and in images.
+    fn sorts(&self) -> impl Iterator<Item = (&'static str, [Met; 4])> + '_ {
+        let both = self.offered.iter().zip(&self.in_images);
+        SORTS
+            .into_iter()
+            .zip(both)
+            .map(|(name, (offered, in_images))| {
+                let columns = [
+                    offered.entries,
+                    offered.naming,
+                    in_images.entries,
+                    in_images.naming,
+                ];
+                (name, columns)
+            })
+    }
+
+    /// A table for each sort.
+    fn write_sorts(&self, out: &mut fmt::Formatter) -> fmt::Result {
+        let names = ["one", "naming", "image: one", "image: naming"];
+        for (name, columns) in self.sorts() {
+            writeln!(
+                out,
+                "\nEntries that are a {name}, or name one of their account,"
+            )?;
+            writeln!(
+                out,
+                "posted or carried over and in images, by refusal number"
+            )?;
+            write_met(out, &names, &columns)?;
+        }
+        Ok(())
     }
 }
 
@@ -381,7 +440,7 @@ impl fmt::Display for Tally {
             writeln!(out, "\nEntries {}", period.at_end())?;
             write_counts(out, AT_END, &kinds, rows)?;
         }
-        self.write_late_charges(out)
+        self.write_sorts(out)
     }
 }
 

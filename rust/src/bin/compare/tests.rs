@@ -3,7 +3,7 @@
 
 use crate::call::{Answer, Call, Request};
 use crate::difference::{compare, Difference};
-use crate::entries::names_late_charge;
+use crate::entries::{is_for_no_day, is_late_charge, names_one};
 use crate::expected::expected;
 use crate::halves;
 use crate::images::entries_of;
@@ -124,13 +124,17 @@ fn with_records(call: &Call, changed: impl Fn(Raw) -> Raw) -> Answer {
     expected(&call).answer
 }
 
+/// Gives an accepted call that answer.
+fn answer_with_records(call: &Call, answer: &mut Answer, changed: impl Fn(Raw) -> Raw) {
+    if expected(call).refusal == 0 {
+        *answer = with_records(call, changed);
+    }
+}
+
 /// Bills of the image at a half, with whole cents of this parity, go to the odd
 /// cent: the answer is as if each had that charge for 1 of 1 day.
 fn half_bills_to_odd(call: &Call, answer: &mut Answer, parity: u64) {
-    if expected(call).refusal != 0 {
-        return;
-    }
-    *answer = with_records(call, |raw| {
+    answer_with_records(call, answer, |raw| {
         let whole = halves::of_bill(&raw).filter(|whole| whole % 2 == parity);
         match whole {
             Some(whole) => Raw {
@@ -199,19 +203,14 @@ const HALF_SLIPS: [(&str, Slip); 6] = [
     }),
 ];
 
-/// An accepted image is refused at its first late charge of these.
-fn refuse_late_charge(
-    call: &Call,
-    answer: &mut Answer,
-    refusal: u8,
-    is_refused: impl Fn(&Raw) -> bool,
-) {
+/// An accepted image is refused at its first record of these.
+fn refuse_record(call: &Call, answer: &mut Answer, refusal: u8, is_refused: impl Fn(&Raw) -> bool) {
     let Answer::Checked(given) = answer else {
         return;
     };
     let entries = entries_of(call.image.bytes());
     let mut places = entries.iter().zip(1..);
-    let at_fault = places.find(|(raw, _)| raw.kind == LATE_CHARGE && is_refused(raw));
+    let at_fault = places.find(|(raw, _)| is_refused(raw));
     if let (0, Some((_, record))) = (given.refusal, at_fault) {
         *given = CheckGiven {
             refusal,
@@ -243,17 +242,42 @@ fn accept_record(
     }
 }
 
-/// An entry of this kind that names a late charge is accepted when posted.
-fn post_naming(call: &Call, answer: &mut Answer, kind: u8) {
+/// Gives a posting on an image with no record at fault another refusal number, by
+/// the entry, those before it and the plain book's number.
+fn judge_posted(call: &Call, answer: &mut Answer, judged: impl Fn(&Raw, &[Raw], u8) -> u8) {
     let (Request::Post { entry, .. }, Answer::Posted(given)) = (&call.request, answer) else {
         return;
     };
-    if !posts(call, kind) || (given.record, given.refusal) != (0, 8) {
+    if given.record == 0 && entry.bytes().len() == RECORD {
+        let raw = parse_record(entry.bytes()).0;
+        given.refusal = judged(&raw, &entries_of(call.image.bytes()), given.refusal);
+    }
+}
+
+/// Gives each entry of an accepted carry-over another number in the result list,
+/// by the same.
+fn judge_carried(call: &mut Call, answer: &Answer, judged: impl Fn(&Raw, &[Raw], u8) -> u8) {
+    let mut before = entries_of(call.image.bytes());
+    let (
+        Request::CarryOver {
+            entries, results, ..
+        },
+        Answer::Carried(given),
+    ) = (&mut call.request, answer)
+    else {
+        return;
+    };
+    if given.refusal != 0 {
         return;
     }
-    let raw = parse_record(entry.bytes()).0;
-    if names_late_charge(&raw, &entries_of(call.image.bytes())) {
-        given.refusal = 0;
+    let records = entries.bytes().chunks_exact(RECORD);
+    for (record, result) in records.zip(results.bytes_mut()) {
+        let raw = parse_record(record).0;
+        let number = *result;
+        *result = judged(&raw, &before, number);
+        if number == 0 {
+            before.push(raw);
+        }
     }
 }
 
@@ -272,40 +296,109 @@ const LATE_CHARGE_RANGES: [(&str, Broken); 5] = [
     ("a named node", |raw| raw.named_node != 0),
 ];
 
-const LATE_CHARGE_SLIPS: [(&str, Slip); 9] = [
-    ("a late charge posted", |call, answer| match answer {
-        Answer::Posted(given)
-            if posts(call, LATE_CHARGE) && (given.record, given.refusal) == (0, 1) =>
-        {
-            given.refusal = 0;
-        }
-        _ => {}
+/// Another refusal number of an entry that is posted or carried over, by those
+/// before it and the plain book's number.
+type Judgement = fn(&Raw, &[Raw], u8) -> u8;
+
+const OTHER_JUDGEMENTS: [(&str, Judgement); 8] = [
+    ("a late charge accepted", |raw, _, number| match number {
+        1 if is_late_charge(raw) => 0,
+        _ => number,
     }),
-    ("a late charge carried over", |call, answer| {
-        let (
-            Request::CarryOver {
-                entries, results, ..
-            },
-            Answer::Carried(given),
-        ) = (&mut call.request, answer)
+    ("a bill for no day accepted", |_, _, number| match number {
+        30 => 0,
+        _ => number,
+    }),
+    ("30 after 6", |raw, before, number| {
+        let not_below = |other: &Raw| other.node == raw.node && other.serial >= raw.serial;
+        match number {
+            30 if raw.serial == 0 || before.iter().any(not_below) => 6,
+            _ => number,
+        }
+    }),
+    ("30 after 7", |_, before, number| match number {
+        30 if before.len() == ENTRIES => 7,
+        _ => number,
+    }),
+    ("30 before 5", |raw, _, number| match number {
+        5 if is_for_no_day(raw) => 30,
+        _ => number,
+    }),
+    ("bills of one day refused", |raw, _, number| match number {
+        0 if raw.kind == BILL && raw.b == 1 => 30,
+        _ => number,
+    }),
+    ("payments refused", |raw, _, number| match number {
+        0 if raw.kind == PAYMENT => 30,
+        _ => number,
+    }),
+    (
+        "no correction of a bill for no day",
+        |raw, before, number| match number {
+            0 if names_one(raw, before, is_for_no_day) => 8,
+            _ => number,
+        },
+    ),
+];
+
+/// Bills of zero days served stand at their full charge: the answer is as if all
+/// the days were served.
+fn no_day_in_full(call: &Call, answer: &mut Answer) {
+    answer_with_records(call, answer, |raw| match raw {
+        Raw { a, .. } if is_for_no_day(&raw) => Raw { b: a as u8, ..raw },
+        _ => raw,
+    });
+}
+
+/// Whether the call posts the correction of a bill of zero days served.
+fn posts_correction_of_no_day(call: &Call) -> bool {
+    let Request::Post { entry, .. } = &call.request else {
+        return false;
+    };
+    posts(call, CORRECTION) && entry.bytes().len() == RECORD && {
+        let raw = parse_record(entry.bytes()).0;
+        names_one(&raw, &entries_of(call.image.bytes()), is_for_no_day)
+    }
+}
+
+const NO_DAY_SLIPS: [(&str, Slip); 4] = [
+    ("30 at load too", |call, answer| {
+        refuse_record(call, answer, 30, is_for_no_day);
+    }),
+    ("a bill for no day at its full charge", |call, answer| {
+        if let Answer::Statement(_) = answer {
+            no_day_in_full(call, answer);
+        }
+    }),
+    ("a correction from the full charge", |call, answer| {
+        if posts_correction_of_no_day(call) {
+            no_day_in_full(call, answer);
+        }
+    }),
+    ("a day served saved", |call, answer| {
+        let (Request::Post { output, .. }, Answer::Posted(given)) = (&mut call.request, answer)
         else {
             return;
         };
-        let records = entries.bytes().chunks_exact(RECORD);
-        for (record, result) in records.zip(results.bytes_mut()) {
-            if given.refusal == 0 && record[0] == LATE_CHARGE {
-                *result = 0;
-            }
+        let mut records = output.bytes_mut()[..given.bytes].chunks_exact_mut(RECORD);
+        if let Some(record) = records.find(|record| is_for_no_day(&parse_record(record).0)) {
+            record[22] = 1;
         }
     }),
+];
+
+const LATE_CHARGE_SLIPS: [(&str, Slip); 7] = [
     ("no late charge in an image", |call, answer| {
-        refuse_late_charge(call, answer, 1, |_| true);
+        refuse_record(call, answer, 1, is_late_charge);
     }),
     ("no late charge of zero", |call, answer| {
-        refuse_late_charge(call, answer, 5, |raw| raw.amount == 0);
+        refuse_record(call, answer, 5, |raw| {
+            is_late_charge(raw) && raw.amount == 0
+        });
     }),
     ("no late charge of 100,000,000", |call, answer| {
-        refuse_late_charge(call, answer, 5, |raw| raw.amount == AMOUNT_MOST);
+        let is_refused = |raw: &Raw| is_late_charge(raw) && raw.amount == AMOUNT_MOST;
+        refuse_record(call, answer, 5, is_refused);
     }),
     ("bills without late charges", |call, answer| {
         let (&Request::Statement { account, .. }, Answer::Statement(given)) =
@@ -387,17 +480,14 @@ fn judged_otherwise(raw: &Raw, before: &[Raw], other_end: OtherEnd) -> bool {
 /// A posting of this kind that is accepted, or refused by this number, is judged
 /// by the other end.
 fn post_by(call: &Call, answer: &mut Answer, (kind, number): (u8, u8), other_end: OtherEnd) {
-    let (Request::Post { entry, .. }, Answer::Posted(given)) = (&call.request, answer) else {
-        return;
-    };
-    let by_period = given.record == 0 && [0, number].contains(&given.refusal);
-    if !posts(call, kind) || !by_period {
-        return;
-    }
-    let raw = parse_record(entry.bytes()).0;
-    if judged_otherwise(&raw, &entries_of(call.image.bytes()), other_end) {
-        given.refusal = number - given.refusal;
-    }
+    judge_posted(call, answer, |raw, before, refusal| {
+        let by_period = raw.kind == kind && [0, number].contains(&refusal);
+        if by_period && judged_otherwise(raw, before, other_end) {
+            number - refusal
+        } else {
+            refusal
+        }
+    });
 }
 
 /// The records of this kind in an image that is accepted, or refused by this
@@ -546,7 +636,7 @@ fn the_plain_book_differs_in_nothing_from_itself() {
 /// In this list both nodes are offered serials near the last one early on.
 #[test]
 fn a_list_begins_where_serials_are_few() {
-    let list = 102_263;
+    let list = 592_574;
     assert!(compare(list, plain, &mut Tally::new()).is_ok());
 }
 
@@ -556,6 +646,7 @@ fn every_slip_is_found() {
         &ANSWER_SLIPS[..],
         &HALF_SLIPS,
         &LATE_CHARGE_SLIPS,
+        &NO_DAY_SLIPS,
         &PAGE_SLIPS,
         &BUFFER_SLIPS,
     ];
@@ -576,12 +667,26 @@ fn every_range_of_a_late_charge_is_tried() {
 #[test]
 fn every_kind_that_names_a_late_charge_is_tried() {
     for kind in NAMING {
-        let posted = first_difference(|call, answer| post_naming(call, answer, kind));
-        assert!(posted.is_some(), "{kind} posted");
         let accepts =
-            |raw: &Raw, before: &[Raw]| raw.kind == kind && names_late_charge(raw, before);
+            |raw: &Raw, before: &[Raw]| raw.kind == kind && names_one(raw, before, is_late_charge);
+        let judged = |raw: &Raw, before: &[Raw], number| match number {
+            8 if accepts(raw, before) => 0,
+            _ => number,
+        };
+        let posted = first_difference(|call, answer| judge_posted(call, answer, judged));
+        assert!(posted.is_some(), "{kind} posted");
         let loaded = first_difference(|call, answer| accept_record(call, answer, 8, accepts));
         assert!(loaded.is_some(), "{kind} loaded");
+    }
+}
+
+#[test]
+fn every_other_judgement_is_found() {
+    for (name, judged) in OTHER_JUDGEMENTS {
+        let posted = first_difference(|call, answer| judge_posted(call, answer, judged));
+        assert!(posted.is_some(), "{name}: posted");
+        let carried = first_difference(|call, answer| judge_carried(call, answer, judged));
+        assert!(carried.is_some(), "{name}: carried over");
     }
 }
 
@@ -695,6 +800,10 @@ fn what_was_tried_too_rarely_is_named() {
         "late charge in an image: refusal number 0 fewer than 100 times",
         "late charge in an image: refusal number 5 fewer than 100 times",
         "late charge named in an image: refusal number 8 fewer than 100 times",
+        "bill for no day offered: refusal number 30 fewer than 100 times",
+        "bill for no day named: refusal number 0 fewer than 100 times",
+        "bill for no day in an image: refusal number 20 fewer than 100 times",
+        "bill for no day named in an image: refusal number 0 fewer than 100 times",
         "deposit return at a half, odd cents: accepted fewer than 100 times",
         "expiry at the end of a period of 1,827 days: accepted fewer than 100 times",
         "added customer at the end of a period from 29 February, in an image: refusal number 12 \
