@@ -17,14 +17,14 @@ use measures::{Cents, Day};
 use rules::{Account, PostingAnswer, paid_within};
 
 // The last serial of each node, 0 where it has none.
-#[derive(Drop)]
+#[derive(Clone, Copy)]
 pub struct Serials {
     pub node_1: u32,
     pub node_2: u32,
 }
 
 // The late-charge run that is open; all zero where none is.
-#[derive(Drop)]
+#[derive(Clone, Copy)]
 pub struct Run {
     pub node: u8,
     pub day: u16,
@@ -34,7 +34,7 @@ pub struct Run {
     pub next: u16,
 }
 
-#[derive(Drop)]
+#[derive(Clone, Copy)]
 pub struct Book {
     pub accounts: [Account; Book::ACCOUNTS],
     // Between the arrays: the compiler then fills those of a fresh book with fewer copies.
@@ -48,7 +48,7 @@ pub struct Book {
 }
 
 // A search along an account's chain.
-#[derive(Drop)]
+#[derive(Clone, Copy)]
 pub struct Search {
     // The number of the entry that it stands at.
     pub at: u16,
@@ -58,7 +58,7 @@ pub struct Search {
 }
 
 // A walk along an account's chain that adds up the payments in a reduction's window.
-#[derive(Drop)]
+#[derive(Clone, Copy)]
 pub struct Window {
     // The number of the entry that it stands at.
     pub at: u16,
@@ -70,7 +70,7 @@ pub struct Window {
 }
 
 // The next book beside the answer.
-#[derive(Drop)]
+#[derive(Clone, Copy)]
 pub struct Posted {
     pub book: Book,
     pub answer: PostingAnswer,

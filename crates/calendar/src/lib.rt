@@ -9,7 +9,7 @@ ghost use Rattle.calendar.specs.Periods.{years_on};
 use measures::Day;
 
 // January is month 1.
-#[derive(Drop)]
+#[derive(Clone, Copy)]
 pub struct Date {
     pub year: u16,
     pub month: u8,

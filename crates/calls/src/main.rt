@@ -4,7 +4,7 @@ use console::{Session, answer};
 use text::{BUFFER, LONGEST_READ, put};
 
 // What lasts from piece to piece; of the line so far the length, at most one byte more than the longest.
-#[derive(Drop)]
+#[derive(Clone, Copy)]
 struct Taken {
     books: [Book; 2],
     session: Session,

@@ -7,14 +7,14 @@ use book::Book;
 use entries::{Raw, Refusal};
 use rules::PostingAnswer;
 
-#[derive(Drop)]
+#[derive(Clone, Copy)]
 pub enum CarryAnswer {
     Refused(Refusal),
     Accepted,
 }
 
 // The next book beside the answer.
-#[derive(Drop)]
+#[derive(Clone, Copy)]
 pub struct Carried {
     pub book: Book,
     pub answer: CarryAnswer,

@@ -12,13 +12,13 @@ use rules::{
 use years::Year;
 
 // Where a named entry stands in the book's array.
-#[derive(Drop)]
+#[derive(Clone, Copy)]
 pub enum Found {
     At(usize),
     Nothing,
 }
 
-#[derive(Drop)]
+#[derive(Clone, Copy)]
 pub struct Change {
     pub account: Account,
     // The new entry's data.
@@ -29,7 +29,7 @@ pub struct Change {
     pub amounts: Amounts,
 }
 
-#[derive(Drop)]
+#[derive(Clone, Copy)]
 pub enum Decision {
     Refused(Refusal),
     Accepted(Change),

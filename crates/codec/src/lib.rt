@@ -13,7 +13,7 @@ pub const RECORD: usize = 24;
 pub const LONGEST_IMAGE: usize = 24600;
 
 // An entry as it is given, and its next index.
-#[derive(Drop)]
+#[derive(Clone, Copy)]
 pub struct Record {
     pub raw: Raw,
     pub next: u16,

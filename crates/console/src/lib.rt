@@ -7,7 +7,7 @@ use session::call;
 use text::{Line, NUMBERS, SHOWN, first, understood, write};
 
 // The book that the call went to and the session, after a line.
-#[derive(Drop)]
+#[derive(Clone, Copy)]
 pub struct Answered {
     pub book: Book,
     pub session: Session,

@@ -12,7 +12,7 @@ use saves::{SaveAnswer, save};
 use text::{PLACES, at, first};
 
 // What lasts from line to line, beside the books and the lent buffer.
-#[derive(Drop)]
+#[derive(Clone, Copy)]
 pub struct Session {
     // The number of the book that calls go to, 1 or 2.
     pub current: u64,
@@ -24,7 +24,7 @@ pub struct Session {
 }
 
 // The next book and session, and how many numbers the answer has: they stand at the start of the lent list.
-#[derive(Drop)]
+#[derive(Clone, Copy)]
 pub struct Called {
     pub book: Book,
     pub session: Session,

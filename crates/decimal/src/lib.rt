@@ -9,7 +9,7 @@ use buffers::put;
 pub const COLUMNS: usize = 80;
 
 // A text that ends in a line's last column, spaces before it.
-#[derive(Drop)]
+#[derive(Clone, Copy)]
 pub struct Field {
     pub columns: [u8; COLUMNS],
     // The text's own length.

@@ -65,7 +65,7 @@ passed_rule (Refused m) true n e = let z : ◌≡◌ {A = ℕ} 0 1 = cc in absur
 
 first_passed : (c : Check) (rows : List Row) → check_rows c rows ≡ Passed → c ≡ Passed
 first_passed c [] e = e
-first_passed c (r ∷ rs) e = (passed_rule c r.broken r.refusal (first_passed _ rs e)).0
+first_passed c (r ∷ rs) e = (passed_rule c r.broken r.refusal (first_passed (refuse_if c r.broken r.refusal) rs e)).0
 
 -- the row of a refusal's number; one that is not broken where the table has none
 abbrev pub row_of : ℕ → List Row → Row
@@ -75,7 +75,7 @@ row_of n (r ∷ rs) = cond (eqb (refusal_number r.refusal) n) r (row_of n rs)
 pub unbroken : (n : ℕ) (c : Check) (rows : List Row) → check_rows c rows ≡ Passed → (row_of n rows).broken ≡ false
 unbroken n c [] e = refl
 unbroken n c (r ∷ rs) e =
-    pick (eqb (refusal_number r.refusal) n) (passed_rule c r.broken r.refusal (first_passed _ rs e)).1 (unbroken n _ rs e)
+    pick (eqb (refusal_number r.refusal) n) (passed_rule c r.broken r.refusal (first_passed (refuse_if c r.broken r.refusal) rs e)).1 (unbroken n (refuse_if c r.broken r.refusal) rs e)
   where
     pick : (t : Bool) → r.broken ≡ false → (row_of n rs).broken ≡ false → (cond t r (row_of n rs)).broken ≡ false
     pick true p q = p

@@ -4,7 +4,7 @@ ghost use Rattle.entries.specs.Arrivals.{is_recorded, is_in_run, unknown_to, no_
 
 use crate::kinds::{Kind, both, either};
 
-#[derive(Drop)]
+#[derive(Clone, Copy)]
 pub enum Arrival {
     // By a posting or a carry-over, while no late-charge run is open.
     Posted,

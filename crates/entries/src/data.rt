@@ -6,7 +6,7 @@ use crate::kinds::{Kind, both};
 use measures::{Cents, Day, Metres};
 
 // What was posted and what became of it, by kind. The case is the kind.
-#[derive(Drop)]
+#[derive(Clone, Copy)]
 pub enum Data {
     Unused,
     // The short fields come first, which makes an entry 72 bytes and not 80.
@@ -63,7 +63,7 @@ pub enum Data {
     LateCharge(Cents),
 }
 
-#[derive(Drop)]
+#[derive(Clone, Copy)]
 pub struct Entry {
     pub node: u8,
     pub account: u16,
@@ -76,7 +76,7 @@ pub struct Entry {
 }
 
 // What the rules and the queries read of an entry. A field that its kind does not have is zero or false.
-#[derive(Drop)]
+#[derive(Clone, Copy)]
 pub struct Particulars {
     pub kind: Kind,
     pub amount: Cents,
@@ -165,6 +165,7 @@ impl Particulars {
     }
 
     // The standing amount of an entry that counts, and 0 of another.
+    #[tactic(auto, unfolding(crate::specs::Data::standing_if))]
     pub fn standing_if(self, counts: bool) -> Cents
         ensures { result ≡ standing_if counts self }
     {
@@ -180,6 +181,7 @@ pub fn one_more(n: u16) -> u16
 }
 
 impl Data {
+    #[tactic(auto, unfolding(crate::specs::Data::case_of, crate::specs::Data::particulars_of))]
     pub fn particulars(self) -> Particulars
         ensures { result ≡ particulars_of self }
     {
@@ -222,6 +224,7 @@ impl Data {
     }
 
     // A contribution after a refund, of which a part settled arrears and the rest was paid out.
+    #[tactic(auto, unfolding(crate::specs::Data::case_of, crate::specs::Data::refunded_of))]
     pub fn refunded(self, refund: Cents, settled: Cents, rest: Cents) -> Data
         ensures { result ≡ refunded_of self refund settled rest }
     {
@@ -252,6 +255,7 @@ impl Data {
     }
 
     // A contribution after its expiry: what was held is retained, and it is closed.
+    #[tactic(auto, unfolding(crate::specs::Data::case_of, crate::specs::Data::expired_of))]
     pub fn expired(self) -> Data
         ensures { result ≡ expired_of self }
     {
@@ -282,6 +286,7 @@ impl Data {
     }
 
     // A bill or payment after its correction.
+    #[tactic(auto, unfolding(crate::specs::Data::case_of, crate::specs::Data::restated_of))]
     pub fn restated(self, amount: Cents) -> Data
         ensures { result ≡ restated_of self amount }
     {
@@ -315,6 +320,7 @@ impl Data {
     }
 
     // A guarantee after a reduction on a day, by which a part of what was held is given back.
+    #[tactic(auto, unfolding(crate::specs::Data::case_of, crate::specs::Data::reduced_of))]
     pub fn reduced(self, back: Cents, day: Day) -> Data
         ensures { result ≡ reduced_of self back day }
     {
@@ -335,6 +341,7 @@ impl Data {
     }
 
     // A guarantee after its retention: nothing is held, and it is closed.
+    #[tactic(auto, unfolding(crate::specs::Data::case_of, crate::specs::Data::retained_of))]
     pub fn retained(self) -> Data
         ensures { result ≡ retained_of self }
     {
@@ -378,6 +385,7 @@ impl Entry {
     }
 
     // The entry with other data of its kind.
+    #[tactic(auto, unfolding(crate::specs::Data::with_of))]
     pub fn with(self, data: Data) -> Entry
         ensures { result ≡ with_of self «data» }
     {

@@ -4,7 +4,7 @@ ghost use Rattle.entries.specs.Kinds.{kind_of, number_of, same_of, counts_with_b
 ghost use Rattle.entries.specs.Ranges.{row, limits_of};
 
 // The documents' kinds 1 to 12 in their order, after a case for every other number.
-#[derive(Drop)]
+#[derive(Clone, Copy)]
 pub enum Kind {
     Unknown,
     Contribution,
@@ -23,7 +23,7 @@ pub enum Kind {
 
 // The ends of the fields' ranges. Where `named` holds, the named node is 1 or 2 and the named serial 1 or more; else both are 0.
 // Where `phases` holds, b is 1 or 3; else it is at most `b_high`.
-#[derive(Drop)]
+#[derive(Clone, Copy)]
 pub struct Limits {
     pub amount_low: u32,
     pub amount_high: u32,
@@ -80,6 +80,7 @@ impl Kind {
     pub const BILL_PERIOD_MOST: u16 = 62;
 
     // The kind of a number.
+    #[tactic(auto, unfolding(crate::specs::Kinds::kind_of))]
     pub fn of(number: u8) -> Kind
         ensures { result ≡ kind_of number }
     {
@@ -154,6 +155,7 @@ impl Kind {
     }
 
     // Of a kind that names an entry: whether it may not name one of the other kind.
+    #[tactic(auto, unfolding(crate::specs::Kinds::misnames_of))]
     pub fn misnames(self, other: Kind) -> bool
         ensures { result ≡ misnames_of self other }
     {
@@ -167,6 +169,7 @@ impl Kind {
     }
 
     // The ranges of the fields, where a is the entry's field a.
+    #[tactic(auto, unfolding(crate::specs::Ranges::limits_of))]
     pub fn limits(self, a: u16) -> Limits
         ensures { result ≡ limits_of self a }
     {

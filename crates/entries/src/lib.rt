@@ -1,4 +1,6 @@
 // Entries: as they are given, as the book keeps them, the ranges of their fields, and the refusals.
+#![tactic(auto)]
+
 mod arrivals;
 mod data;
 mod kinds;

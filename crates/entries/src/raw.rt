@@ -9,7 +9,7 @@ use crate::data::{Data, Entry};
 use crate::kinds::{Kind, both, either};
 use measures::{Cents, Day};
 
-#[derive(Drop)]
+#[derive(Clone, Copy)]
 pub struct Raw {
     pub kind: u8,
     pub node: u8,
@@ -24,6 +24,7 @@ pub struct Raw {
 }
 
 // Whether a number lies in a range, both ends included.
+#[tactic(auto, unfolding(crate::specs::Ranges::between))]
 pub fn within(n: u32, low: u32, high: u32) -> bool
     ensures { result ≡ between n low high }
 {
@@ -38,6 +39,7 @@ impl Raw {
     }
 
     // The named pair is 1 or 2 and 1 or more where the kind names an entry, and else 0 and 0.
+    #[tactic(auto, unfolding(crate::specs::Ranges::named_fits))]
     fn named_fits(self, named: bool) -> bool
         ensures { result ≡ named_fits self named }
     {
@@ -49,6 +51,7 @@ impl Raw {
     }
 
     // b is 1 or 3 phases, or at most `high`.
+    #[tactic(auto, unfolding(crate::specs::Ranges::b_fits))]
     fn b_fits(self, phases: bool, high: u16) -> bool
         ensures { result ≡ b_fits self phases high }
     {
@@ -60,6 +63,7 @@ impl Raw {
     }
 
     // Whether every field but the common ones is in its kind's range (refusal 5).
+    #[tactic(auto, unfolding(crate::specs::Ranges::in_range_of))]
     pub fn in_range(self, kind: Kind) -> bool
         ensures { result ≡ in_range_of self kind }
     {
@@ -79,6 +83,7 @@ impl Raw {
     }
 
     // The entry as the book keeps it.
+    #[tactic(auto, unfolding(crate::specs::Data::entry_of))]
     pub fn entry(self, next: u16, data: Data) -> Entry
         ensures { result ≡ entry_of self next «data» }
     {

@@ -3,7 +3,7 @@ ghost use Rattle.std.specs.Prelude.{◌≡◌};
 ghost use Rattle.entries.specs.Refusals.{refusal_number, refuse_if};
 
 // One case for each of the documents' numbers, in their order.
-#[derive(Drop)]
+#[derive(Clone, Copy)]
 pub enum Refusal {
     UnknownKind,
     UnknownNode,
@@ -38,7 +38,7 @@ pub enum Refusal {
 }
 
 // What the checks so far found.
-#[derive(Drop)]
+#[derive(Clone, Copy)]
 pub enum Check {
     Passed,
     Refused(Refusal),
@@ -86,6 +86,7 @@ impl Refusal {
 
 impl Check {
     // The next rule: its refusal stands where the rule is broken and none before it was.
+    #[tactic(auto, unfolding(crate::specs::Refusals::refuse_if))]
     pub fn refuse_if(self, broken: bool, refusal: Refusal) -> Check
         ensures { result ≡ refuse_if self broken refusal }
     {

@@ -13,7 +13,7 @@ const ROOM: usize = 288;
 const PAGE_ROOM: usize = 5347;
 
 // A node's image: the first bytes of an array.
-#[derive(Drop)]
+#[derive(Clone, Copy)]
 struct Host {
     image: [u8; ROOM],
     length: usize,

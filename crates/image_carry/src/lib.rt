@@ -14,7 +14,7 @@ use replays::replay;
 use saves::{SaveAnswer, entry_count, save};
 
 #[repr(C)]
-#[derive(Drop)]
+#[derive(Clone, Copy)]
 pub struct CarryGiven {
     pub refusal: u8,
     // The image's record at fault, 0 where none is.

@@ -7,7 +7,7 @@ use loads::{LoadAnswer, load};
 use pages::{PageAnswer, page};
 
 #[repr(C)]
-#[derive(Drop)]
+#[derive(Clone, Copy)]
 pub struct PageGiven {
     pub refusal: u8,
     // The image's record at fault, 0 where none is.

@@ -12,7 +12,7 @@ use rules::{PostingAnswer, PostingReply};
 use saves::{SaveAnswer, save};
 
 #[repr(C)]
-#[derive(Drop)]
+#[derive(Clone, Copy)]
 pub struct PostingGiven {
     pub refusal: u8,
     // The image's record at fault, 0 where none is.

@@ -6,7 +6,7 @@ ghost use Rattle.image_read.specs.Checks.{check_given};
 use loads::{LoadAnswer, load};
 
 #[repr(C)]
-#[derive(Drop)]
+#[derive(Clone, Copy)]
 pub struct CheckGiven {
     pub refusal: u8,
     // The record at fault, 0 where none is.

@@ -10,7 +10,7 @@ use queries::{
 };
 
 #[repr(C)]
-#[derive(Drop)]
+#[derive(Clone, Copy)]
 pub struct StatementGiven {
     pub refusal: u8,
     // The image's record at fault, 0 where none is.
@@ -26,7 +26,7 @@ pub struct StatementGiven {
 }
 
 #[repr(C)]
-#[derive(Drop)]
+#[derive(Clone, Copy)]
 pub struct ContributionGiven {
     pub refusal: u8,
     // The image's record at fault, 0 where none is.

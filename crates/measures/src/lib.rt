@@ -1,16 +1,18 @@
 // Measures: whole cents, days from 2000-01-01, whole metres. Each is a type of its own, so that no sum mixes two of them.
+#![tactic(auto)]
+
 ghost use Rattle.std.specs.Prelude.{◌≡◌, ◌/◌, min};
 ghost use Rattle.measures.specs.Cents.{product_of, plus_of, minus_of, least_of, times_of, rounded_of};
 ghost use Rattle.measures.specs.Days.{since_of};
 
-#[derive(Drop)]
+#[derive(Clone, Copy)]
 pub struct Cents(pub u64);
 
 // Day 0 is 2000-01-01.
-#[derive(Drop)]
+#[derive(Clone, Copy)]
 pub struct Day(pub u16);
 
-#[derive(Drop)]
+#[derive(Clone, Copy)]
 pub struct Metres(pub u16);
 
 // The product, and 2^64 - 1 where it does not fit.

@@ -22,7 +22,7 @@ pub const PAGE: usize = 66 * LINE;
 // How many entries a page shows.
 const ENTRIES_SHOWN: usize = 58;
 
-#[derive(Drop)]
+#[derive(Clone, Copy)]
 pub enum PageAnswer {
     Refused(Refusal),
     // The bytes written.

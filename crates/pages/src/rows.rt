@@ -8,7 +8,7 @@ use decimal::{COLUMNS, amount, number, put_columns};
 pub const LINE: usize = COLUMNS + 1;
 
 // What a line shows of an entry.
-#[derive(Drop)]
+#[derive(Clone, Copy)]
 pub struct EntryLine {
     pub number: u16,
     pub day: u16,

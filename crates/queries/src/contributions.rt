@@ -8,7 +8,7 @@ use book::{Book, Search, slot};
 use entries::{Check, Data, Refusal, within};
 use measures::Cents;
 
-#[derive(Drop)]
+#[derive(Clone, Copy)]
 pub struct ContributionFigures {
     pub amount: Cents,
     // Refunds to arrears, and refunds paid out.
@@ -21,14 +21,14 @@ pub struct ContributionFigures {
     pub closed: bool,
 }
 
-#[derive(Drop)]
+#[derive(Clone, Copy)]
 pub enum ContributionAnswer {
     Refused(Refusal),
     Given(ContributionFigures),
 }
 
 // An answer in document 01's numbers.
-#[derive(Drop)]
+#[derive(Clone, Copy)]
 pub struct ContributionReply {
     pub refusal: u8,
     pub amount: u64,

@@ -8,7 +8,7 @@ use entries::{Entry, Kind, Particulars, Refusal, one_more, within};
 use measures::Cents;
 use rules::Account;
 
-#[derive(Drop)]
+#[derive(Clone, Copy)]
 pub struct StatementFigures {
     pub arrears: Cents,
     pub credit: Cents,
@@ -22,14 +22,14 @@ pub struct StatementFigures {
     pub complete: bool,
 }
 
-#[derive(Drop)]
+#[derive(Clone, Copy)]
 pub enum StatementAnswer {
     Refused(Refusal),
     Given(StatementFigures),
 }
 
 // An answer in document 01's numbers.
-#[derive(Drop)]
+#[derive(Clone, Copy)]
 pub struct StatementReply {
     pub refusal: u8,
     pub arrears: u64,
@@ -74,7 +74,7 @@ impl StatementAnswer {
 }
 
 // What a walk of a chain counted and summed so far.
-#[derive(Drop)]
+#[derive(Clone, Copy)]
 struct Sums {
     // All links passed, and those within the allowance.
     length: u16,

@@ -9,14 +9,14 @@ use changes::{Decision, Found};
 use codec::{RECORD, record_in};
 use entries::{Arrival, Check, Refusal, one_more};
 
-#[derive(Drop)]
+#[derive(Clone, Copy)]
 pub enum LoadAnswer {
     Accepted,
     // The record at fault, 0 where none is.
     Refused { refusal: Refusal, record: u16 },
 }
 
-#[derive(Drop)]
+#[derive(Clone, Copy)]
 pub struct Loaded {
     pub book: Book,
     pub answer: LoadAnswer,

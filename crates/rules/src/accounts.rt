@@ -4,7 +4,7 @@ ghost use Rattle.rules.specs.Accounts.{no_account, credited_of, plus_credit_of, 
 
 use measures::{Cents, Day};
 
-#[derive(Drop)]
+#[derive(Clone, Copy)]
 pub struct Account {
     pub arrears: Cents,
     pub credit: Cents,
@@ -19,7 +19,7 @@ pub struct Account {
 }
 
 // An account that an amount was credited to, what it settled, and what was left over.
-#[derive(Drop)]
+#[derive(Clone, Copy)]
 pub struct Credited {
     pub account: Account,
     pub settled: Cents,

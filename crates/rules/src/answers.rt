@@ -6,7 +6,7 @@ use entries::Refusal;
 use measures::Cents;
 
 // The four amounts of an accepted posting: arrears settled by a credit, paid out, retained, interest.
-#[derive(Drop)]
+#[derive(Clone, Copy)]
 pub struct Amounts {
     pub settled: Cents,
     pub paid_out: Cents,
@@ -14,14 +14,14 @@ pub struct Amounts {
     pub interest: Cents,
 }
 
-#[derive(Drop)]
+#[derive(Clone, Copy)]
 pub enum PostingAnswer {
     Refused(Refusal),
     Accepted { number: u16, amounts: Amounts },
 }
 
 // An answer in the documents' numbers.
-#[derive(Drop)]
+#[derive(Clone, Copy)]
 pub struct PostingReply {
     pub refusal: u8,
     pub number: u16,

@@ -8,14 +8,14 @@ use entries::{Arrival, Check, Kind, Raw, Refusal, within};
 use measures::{Cents, Day};
 use rules::{Account, PostingAnswer, late_amount};
 
-#[derive(Drop)]
+#[derive(Clone, Copy)]
 pub enum RunAnswer {
     Refused(Refusal),
     Accepted,
 }
 
 // The next book beside the answer to an opening or a close.
-#[derive(Drop)]
+#[derive(Clone, Copy)]
 pub struct Ran {
     pub book: Book,
     pub answer: RunAnswer,

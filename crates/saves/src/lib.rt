@@ -11,7 +11,7 @@ use codec::{RECORD, encode, header};
 use entries::{Data, Entry, Kind, Raw, Refusal};
 use measures::{Cents, Metres};
 
-#[derive(Drop)]
+#[derive(Clone, Copy)]
 pub enum SaveAnswer {
     Refused(Refusal),
     // The bytes written.

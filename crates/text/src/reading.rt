@@ -8,7 +8,7 @@ pub const LONGEST_READ: usize = 4095;
 // No such line has more numbers.
 pub const NUMBERS: usize = 2047;
 
-#[derive(Drop)]
+#[derive(Clone, Copy)]
 pub enum Line {
     // An empty line or a comment.
     Nothing,
@@ -18,7 +18,7 @@ pub enum Line {
 }
 
 // A number and the place after it.
-#[derive(Drop)]
+#[derive(Clone, Copy)]
 pub struct Parsed {
     pub value: u64,
     pub next: usize,

@@ -6,7 +6,7 @@ use entries::{Data, Kind, one_more};
 use measures::Cents;
 
 // What the entries of a year come to.
-#[derive(Drop)]
+#[derive(Clone, Copy)]
 pub struct Year {
     // Bills with late charges, and payments, at their standing amounts.
     pub bills: Cents,
