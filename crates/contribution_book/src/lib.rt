@@ -1,4 +1,6 @@
-// The contribution book for hosts in C and Rust: a book goes in and comes out as its image.
+// The contribution book for hosts: a book goes in and comes out as its image. The crate contribution_book_c exports these calls to C and Rust.
+#![tactic(auto)]
+
 ghost use Rattle.std.specs.Prelude.{◌≡◌};
 ghost use Rattle.loads.specs.Loads.{load_of};
 ghost use Rattle.image_read.specs.Checks.{check_given};
@@ -15,16 +17,14 @@ use image_read::{
 };
 
 // Checks an image, and counts its entries.
-#[unsafe(no_mangle)]
-pub extern "C" fn contribution_book_check(image: &[u8]) -> CheckGiven
+pub fn contribution_book_check(image: &[u8]) -> CheckGiven
     ensures { result ≡ check_given (load_of image.now) }
 {
     check_image(image)
 }
 
 // Posts an entry to an image.
-#[unsafe(no_mangle)]
-pub extern "C" fn contribution_book_post(
+pub fn contribution_book_post(
     image: &[u8],
     entry: &[u8],
     output: &mut [u8],
@@ -35,8 +35,7 @@ pub extern "C" fn contribution_book_post(
 }
 
 // Carries entries over into an image.
-#[unsafe(no_mangle)]
-pub extern "C" fn contribution_book_carry_over(
+pub fn contribution_book_carry_over(
     image: &[u8],
     entries: &[u8],
     results: &mut [u8],
@@ -48,8 +47,7 @@ pub extern "C" fn contribution_book_carry_over(
 }
 
 // The statement of an account of an image.
-#[unsafe(no_mangle)]
-pub extern "C" fn contribution_book_statement(
+pub fn contribution_book_statement(
     image: &[u8],
     account: u16,
     allowance: u64,
@@ -60,8 +58,7 @@ pub extern "C" fn contribution_book_statement(
 }
 
 // What is known of a contribution of an image.
-#[unsafe(no_mangle)]
-pub extern "C" fn contribution_book_contribution(
+pub fn contribution_book_contribution(
     image: &[u8],
     account: u16,
     node: u8,
@@ -73,8 +70,7 @@ pub extern "C" fn contribution_book_contribution(
 }
 
 // The page of an account of an image.
-#[unsafe(no_mangle)]
-pub extern "C" fn contribution_book_page(image: &[u8], account: u16, output: &mut [u8]) -> PageGiven
+pub fn contribution_book_page(image: &[u8], account: u16, output: &mut [u8]) -> PageGiven
     ensures { (record { given = result; output = output.new }) ≡ page_image (load_of image.now) account output.old }
 {
     page_image(image, account, output)
