@@ -58,9 +58,6 @@ from_bytes_next : (l : List ℕ) (at next n : ℕ) → next ≡ at + 1 →
 from_bytes_next l at next n e =
     rw (e, ← drop-drop 1 at l, ← add-zero at, ← get_or-drop at l 0 0, add-zero at) (from_bytes_head n (drop at l))
 
-pub from_bytes_one : (l : List ℕ) (at : ℕ) → from_bytes (take 1 (drop at l)) ≡ get_or l at 0
-from_bytes_one l at = omega (arith, from_bytes_next l at (at + 1) 0 refl)
-
 pub from_bytes_two : (l : List ℕ) (at : ℕ) → from_bytes (take 2 (drop at l)) ≡ get_or l at 0 + 256 * get_or l (at + 1) 0
 from_bytes_two l at = omega (arith, from_bytes_next l at (at + 1) 1 refl, from_bytes_next l (at + 1) (at + 2) 0 (omega arith))
 

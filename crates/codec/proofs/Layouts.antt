@@ -4,8 +4,8 @@ use mathlib.Core.Path.{◌≡◌, refl}
 use mathlib.Core.List.{List, [], ◌∷◌, ◌++◌, append_assoc}
 use native.Mathlib.Omega.{arith}
 use lib.ListN.{length, get_or, take, drop, length-append, length-drop}
-use lib.Seq.{take_at, drop_at, take-add, drop-drop, get_or-drop}
-use Rattle.codec.specs.Bytes.{to_bytes, from_bytes, Bytes}
+use lib.Seq.{take_at, drop_at, take-add, get_or-drop}
+use Rattle.codec.specs.Bytes.{to_bytes, Bytes}
 use Rattle.codec.specs.Layouts.{total_width, pack, unpack, Fit}
 use Rattle.codec.proofs.Bytes.{length_to_bytes, from_to_bytes, from_bytes_lt, bytes_drop, to_from_bytes_take, from_bytes_same}
 
@@ -39,15 +39,6 @@ pack_unpack (w ∷ ws) l k h =
 pub fit_unpack : (ws l : List ℕ) → Bytes l → Fit ws (unpack ws l)
 fit_unpack [] l h = tt
 fit_unpack (w ∷ ws) l h = (from_bytes_lt w l h, fit_unpack ws (drop w l) (bytes_drop w l h))
-
--- the values, each field's place a sum of widths: at a layout that is written out the places are numerals
-abbrev pub unpack_at : List ℕ → ℕ → List ℕ → List ℕ
-unpack_at [] at l = []
-unpack_at (w ∷ ws) at l = from_bytes (take w (drop at l)) ∷ unpack_at ws (at + w) l
-
-pub unpack_at_lem : (ws : List ℕ) (at : ℕ) (l : List ℕ) → unpack ws (drop at l) ≡ unpack_at ws at l
-unpack_at_lem [] at l = refl
-unpack_at_lem (w ∷ ws) at l = rw (drop-drop w at l, unpack_at_lem ws (at + w) l)
 
 -- the same bytes, 0 past the end, hold the same values
 pub unpack_same : (ws a b : List ℕ) → ((i : ℕ) → i < total_width ws → get_or a i 0 ≡ get_or b i 0) → unpack ws a ≡ unpack ws b

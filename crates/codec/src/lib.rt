@@ -1,4 +1,6 @@
 // The bytes of an image: its records and its header, little-endian.
+#![tactic(auto)]
+
 ghost use Rattle.std.specs.Prelude.{◌≡◌, ◌+◌, ◌*◌, ◌≤◌, length, get_or, take, drop};
 ghost use Rattle.codec.specs.Bytes.{from_bytes, eq_list};
 ghost use Rattle.codec.specs.Records.{record_bytes, encode_record, decode_record, record_in};
@@ -41,6 +43,7 @@ fn two(b: &[u8], at: usize) -> u16
     joined(b[at], b[at + 1])
 }
 
+#[tactic(auto, using(crate::proofs::Bytes::from_bytes_four))]
 fn four(b: &[u8], at: usize) -> u32
     requires { at + 4 ≤ length b.now }
     ensures { result ≡ from_bytes (take 4 (drop at b.now)) }
@@ -49,6 +52,7 @@ fn four(b: &[u8], at: usize) -> u32
 }
 
 // The record at the start of bytes.
+#[tactic(auto, unfolding(crate::specs::Records::decode_record))]
 fn decode(b: &[u8]) -> Record
     requires { record_bytes ≤ length b.now }
     ensures { result ≡ decode_record b.now }
@@ -96,6 +100,7 @@ pub fn record_in(image: &[u8], number: u16) -> Record
 }
 
 // The bytes of a record.
+#[tactic(auto, unfolding(crate::specs::Records::encode_record))]
 pub fn encode(raw: Raw, next: u16) -> [u8; RECORD]
     ensures { result ≡ encode_record (record { raw = raw; next = next }) }
 {
@@ -128,6 +133,7 @@ pub fn encode(raw: Raw, next: u16) -> [u8; RECORD]
 }
 
 // The header of an image with so many records.
+#[tactic(auto, unfolding(crate::specs::Headers::header_of))]
 pub fn header(count: u16) -> [u8; RECORD]
     ensures { result ≡ header_of count }
 {
@@ -160,6 +166,7 @@ pub fn header(count: u16) -> [u8; RECORD]
 }
 
 // Whether two slices hold the same bytes.
+#[tactic(auto, using(crate::proofs::Bytes::eq_list_step, crate::proofs::Bytes::eq_list_stop, crate::proofs::Bytes::eq_list_length))]
 fn same(a: &[u8], b: &[u8]) -> bool
     ensures { result ≡ eq_list a.now b.now }
 {
