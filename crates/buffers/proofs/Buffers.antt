@@ -1,34 +1,21 @@
 -- Laws of a text that is written into a buffer, and of a buffer that texts are appended in.
-use Prim.Native.Nat.{ℕ, ◌+◌, ◌-◌, ◌≤◌, ◌<◌}
+use Prim.Native.Nat.{ℕ, ◌+◌, ◌≤◌}
 use mathlib.Core.Path.{◌≡◌, refl, sym, ap, ◌∙◌}
-use mathlib.Core.List.{List, [], ◌++◌, append_assoc, append-nil}
+use mathlib.Core.List.{List, [], ◌++◌, append_assoc}
 use native.Mathlib.Omega.{arith}
-use lib.ListN.{length, take, drop, length-append, length-drop, take-append-drop}
-use lib.Seq.{take_at, drop_at, length-take-le, drop-drop, take-length, drop-length}
-use borrow.Author.Tests.{le-leb, lt-leb}
-use borrow.Rule.Slice.PartMut.{put_mid}
+use lib.ListN.{length, take, drop, length-append, take-append-drop}
+use lib.Seq.{take_at, drop_at, length-take-le, drop-drop}
+use borrow.Author.Tests.{le-leb}
 use Rattle.buffers.specs.Buffers.{Written, written_at}
 
 -- what a writer leaves
 abbrev pub written : List ℕ → ℕ → Written
 written buf at = record { buffer = buf; place = at }
 
-pub no_room : (text buf : List ℕ) (at : ℕ) → length buf < at + length text → written buf at ≡ written_at text at buf
-unfolding written_at
-no_room text buf at h = rw (lt-leb _ _ h) refl
-
 pub room : (text buf : List ℕ) (at : ℕ) → at + length text ≤ length buf →
     written (take at buf ++ (text ++ drop (at + length text) buf)) (at + length text) ≡ written_at text at buf
 unfolding written_at
 room text buf at h = rw (le-leb _ _ h) refl
-
--- a copy into the part of a buffer from a place on
-pub copied : (text buf part : List ℕ) (at : ℕ) → at + length text ≤ length buf →
-    part ≡ take (length text) text ++ drop (length text) (take (length buf - at) (drop at buf)) →
-    written (put_mid at (length buf - at) buf part) (at + length text) ≡ written_at text at buf
-copied text buf part at h q =
-    let all : length buf - at ≡ length (drop at buf) = sym (length-drop at buf) in
-    rw (q, all, take-length text, take-length (drop at buf), drop-length (drop at buf), append-nil, drop-drop (length text) at buf) (room text buf at h)
 
 -- After a text was written: where it ends, what stands before that, and what stands after it.
 pub record Appended (text buf after : List ℕ) (at next : ℕ) : Type 0 where

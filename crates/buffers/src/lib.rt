@@ -1,8 +1,11 @@
 // A text, or other bytes, written into a lent buffer.
+#![tactic(auto)]
+
 ghost use Rattle.std.specs.Prelude.{◌≡◌};
 ghost use Rattle.buffers.specs.Buffers.{written_at};
 
 // Writes a text over a buffer from a place on, where it has room, and gives the place after it.
+#[tactic(auto, unfolding(crate::specs::Buffers::written_at))]
 pub fn put(buf: &mut [u8], at: usize, text: &[u8]) -> usize
     ensures { (record { buffer = buf.new; place = result }) ≡ written_at text.now at buf.old }
 {
@@ -12,6 +15,7 @@ pub fn put(buf: &mut [u8], at: usize, text: &[u8]) -> usize
     if buf.len() - at < text.len() {
         return at;
     }
-    let n = bytes::copy(text, &mut buf[at..]);
-    at + n
+    let end = at + text.len();
+    buf[at..end].copy_from_slice(text);
+    end
 }

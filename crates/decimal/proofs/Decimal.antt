@@ -163,6 +163,12 @@ pub record Left (text columns : List ℕ) (at rest : ℕ) : Type 0 where
 pub left_room : (text columns : List ℕ) (at rest : ℕ) → length text ≤ line_columns → Left text columns at rest → 0 < at
 left_room text columns at rest h k = omega (arith, some_digits rest, simp (length-append, length-drop) at (ap length k.whole))
 
+-- as the digits of a number of 64 bits and the columns after them are that text
+pub digit_room : (n end : ℕ) (columns shown : List ℕ) (at rest : ℕ) → n < 18446744073709551616 → 20 ≤ end → end ≤ line_columns →
+    length columns ≡ line_columns → Left (digits n ++ drop end columns) shown at rest → 0 < at
+digit_room n end columns shown at rest few low high all k =
+    left_room _ _ _ _ (rw (length-append, length-drop) (omega (arith, at_most_twenty n few))) k
+
 drop-set : (columns : List ℕ) (at d : ℕ) → 0 < at → at ≤ length columns → drop (at - 1) (set columns (at - 1) d) ≡ d ∷ drop at columns
 drop-set columns at d z l =
     let e : suc (at - 1) ≡ at = omega arith in

@@ -1,4 +1,6 @@
 // Numbers and amounts in decimal, as texts that end in a line's last column.
+#![tactic(auto)]
+
 ghost use Rattle.std.specs.Prelude.{◌-◌, ◌≤◌, ◌≡◌, ◌++◌, take, drop, replicate};
 ghost use Rattle.buffers.specs.Buffers.{written_at};
 ghost use Rattle.decimal.specs.Decimal.{space, last_digit, digits, dollars, line_columns, field_of, last_columns};
@@ -24,6 +26,7 @@ fn last_digit(n: u64) -> u8
 
 // A number's digits, of which there are at most 20, the last just before a place. The columns before that place are spaces, and those from it
 // on stay.
+#[tactic(auto, using(crate::proofs::Decimal::digit_room, crate::proofs::Decimal::left_end))]
 fn digits_before(columns: [u8; COLUMNS], end: usize, n: u64) -> Field
     requires { (20 ≤ end) × (end ≤ line_columns) × (take end columns ≡ replicate end space) }
     ensures { result ≡ field_of (digits n ++ drop end columns) }
@@ -52,6 +55,7 @@ pub fn number(n: u64) -> Field
 }
 
 // An amount in cents as dollars, at least one digit, a point and two digits of cents.
+#[tactic(auto, unfolding(crate::specs::Decimal::dollars))]
 pub fn amount(cents: u64) -> Field
     ensures { result ≡ field_of (dollars cents) }
 {

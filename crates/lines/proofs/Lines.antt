@@ -1,15 +1,17 @@
 -- Laws of a line, number by number.
-use Prim.Native.Nat.{ℕ, suc, ◌+◌, ◌-◌, ◌≤◌, ◌<◌}
-use mathlib.Core.Path.{◌≡◌, refl}
+use Prim.Native.Nat.{ℕ, suc, ◌+◌, ◌*◌, ◌-◌, ◌≤◌, ◌<◌}
+use mathlib.Core.Path.{◌≡◌, refl, ◌∙◌}
 use mathlib.Core.List.{List, [], ◌∷◌, ◌++◌, append_assoc}
 use native.Mathlib.Numerals.{add-one}
 use native.Mathlib.Omega.{arith}
 use lib.ListN.{length, take, drop, get_or}
 use lib.Seq.{drop-cons, drop-length}
+use Rattle.buffers.specs.Buffers.{written_at}
+use Rattle.buffers.proofs.Buffers.{written, appended}
 use Rattle.decimal.specs.Decimal.{newline, space, digits, line_columns, field_of, last_columns}
 use Rattle.decimal.specs.declared.Field.{Field}
 use Rattle.decimal.proofs.Decimal.{at_most_twenty, field_length, text_columns, text_part}
-use Rattle.lines.specs.Lines.{numbers_of, line_of}
+use Rattle.lines.specs.Lines.{longest_line, numbers_of, line_of}
 
 -- the rest of a line from a number on
 pub next_number : (word numbers text more : List ℕ) (i : ℕ) → i < length numbers → text ++ numbers_of (drop i numbers) ≡ line_of word numbers →
@@ -26,6 +28,14 @@ unfolding numbers_of
 finished word numbers text i e q =
     let none : drop i numbers ≡ [] = rw e (drop-length numbers) in
     rw none at q
+
+-- after the last number: where the end of the line ends, and the line before that
+pub ended : (word numbers text after : List ℕ) (i n next : ℕ) → length word + 21 * length numbers < longest_line → i ≡ length numbers →
+    length text ≡ longest_line → n ≤ length word + 21 * i → take n text ++ numbers_of (drop i numbers) ≡ line_of word numbers → written after next ≡ written_at (newline ∷ []) n text →
+    (next ≤ longest_line) × (take next after ≡ line_of word numbers)
+ended word numbers text after i n next room e filled low left p =
+    let a = appended (newline ∷ []) text after n next (omega arith) p in
+    (omega (arith, a.end), a.front ∙ finished word numbers (take n text) i e left)
 
 -- The field of a number of 64 bits: how long it is, its digits after a space, and its digits as a part of the columns.
 pub record Shown (n : ℕ) (f : Field) : Type 0 where

@@ -1,5 +1,7 @@
 // The statement printer's lines, each written into a lent buffer from a place on. What is given is the place after the line; where
 // the buffer has no room for the line, both stay as they were.
+#![tactic(auto)]
+
 ghost use Rattle.std.specs.Prelude.{◌+◌, ◌*◌, ◌≤◌, ◌<◌, ◌≡◌, ◌∷◌, ◌++◌, length, take};
 ghost use Rattle.decimal.specs.Decimal.{space, digits};
 ghost use Rattle.lines.specs.Lines.{longest_line, line_of, account_line, end_line, refused_line};
