@@ -2,9 +2,7 @@
 use Prim.Native.Nat.{ℕ, zero, suc, ◌+◌, ◌<◌, ◌≤◌}
 use mathlib.Core.Path.{◌≡◌, refl, ap, ◌∙◌}
 use mathlib.Core.Bool.{Bool, true, false, cond, ◌&&◌, and-eq-true_iff}
-use mathlib.Core.List.{List}
-use lib.Dec.{eqb, leb, ltb, T}
-use lib.ListN.{get_or}
+use lib.Dec.{eqb, leb, ltb}
 use borrow.Author.Tests.{eqb-true, eqb-false, leb-true, leb-false, ltb-true, ltb-false}
 use native.Mathlib.Omega.{arith}
 use Rattle.calendar.specs.Years.{start, span_from}
@@ -80,11 +78,3 @@ holds test (suc n) e i h = go (holds test n ((and-eq-true_iff (test n) (all test
     go : (i < n → test i ≡ true) → (t : Bool) → eqb i n ≡ t → test i ≡ true
     go before true q = ap test (eqb-true i n q) ∙ ((and-eq-true_iff (test n) (all test n)).0 e).0
     go before false q = let ne = eqb-false i n q in before (omega arith)
-
--- so the entries of a table are what a function says; `search` takes the table from the goal
-true_of : (t : Bool) → T t → t ≡ true
-true_of true p = refl
-true_of false p = absurd p
-
-pub table : (f : ℕ → ℕ) (n : ℕ) (l : List ℕ) (i : ℕ) → T (all (λ (j : ℕ). eqb (get_or l j 0) (f j)) n) → i < n → get_or l i 0 ≡ f i
-table f n l i t h = eqb-true (get_or l i 0) (f i) (holds (λ (j : ℕ). eqb (get_or l j 0) (f j)) n (true_of _ t) i h)

@@ -1,5 +1,7 @@
 // Dates from 2000-01-01, day 0, to 2099-12-31, day 36,524. Every call answers for every day and date: a later day has no date, 0-0-0, and
 // a date that the calendar does not have has no day, NEVER.
+#![tactic(auto)]
+
 ghost use Rattle.std.specs.Prelude.{◌≡◌, ◌<◌, false};
 ghost use Rattle.measures.specs.Days.{day};
 ghost use Rattle.calendar.specs.Years.{leap, month_start, month_of, first_day, year_of};
@@ -28,12 +30,14 @@ const FROM_MARCH: u32 = 1401;
 // The days of a common year before each month, from 0, and of the whole year.
 const MONTH_STARTS: [u16; 13] = [0, 31, 59, 90, 120, 151, 181, 212, 243, 273, 304, 334, 365];
 
+#[tactic(auto, unfolding(crate::specs::Years::leap))]
 fn is_leap(year: u16) -> bool
     ensures { result ≡ leap year }
 {
     year % 4 == 0
 }
 
+#[tactic(auto, unfolding(crate::specs::Years::start, crate::specs::Years::days_of_month, crate::specs::Years::months))]
 fn common_start(month: usize) -> u16
     requires { month < 13 }
     ensures { result ≡ month_start false month }
@@ -88,6 +92,7 @@ pub fn year_of(day: Day) -> usize
     }
 }
 
+#[tactic(auto, unfolding(crate::specs::Dates::date_of))]
 pub fn date_of(day: Day) -> Date
     ensures { result ≡ date_of day.0 }
 {
@@ -136,6 +141,7 @@ fn is_real(date: Date) -> bool
     date.day as u16 <= days
 }
 
+#[tactic(auto, unfolding(crate::specs::Dates::day_of))]
 pub fn day_of(date: Date) -> Day
     ensures { result ≡ day (day_of date) }
 {

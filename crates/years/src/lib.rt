@@ -1,4 +1,6 @@
 // The totals of a calendar year.
+#![tactic(auto)]
+
 ghost use Rattle.std.specs.Prelude.{◌≡◌};
 ghost use Rattle.years.specs.Years.{no_year, in_bills, in_payments, posted_in, restated_in};
 
@@ -17,6 +19,7 @@ pub struct Year {
 }
 
 // What an entry counts among bills.
+#[tactic(auto, unfolding(crate::specs::Years::in_bills))]
 fn in_bills(data: Data) -> Cents
     ensures { result ≡ in_bills «data» }
 {
@@ -26,6 +29,7 @@ fn in_bills(data: Data) -> Cents
 }
 
 // What an entry counts among payments.
+#[tactic(auto, unfolding(crate::specs::Years::in_payments))]
 fn in_payments(data: Data) -> Cents
     ensures { result ≡ in_payments «data» }
 {
@@ -47,6 +51,7 @@ impl Year {
     }
 
     // After an entry of the year, which paid so much out.
+    #[tactic(auto, unfolding(crate::specs::Years::posted_in))]
     pub fn posted(self, data: Data, paid_out: Cents) -> Year
         ensures { result ≡ posted_in self «data» paid_out }
     {
@@ -59,6 +64,7 @@ impl Year {
     }
 
     // After a change of an entry of the year: plus what it counts now, minus what it counted before.
+    #[tactic(auto, unfolding(crate::specs::Years::restated_in))]
     pub fn restated(self, before: Data, after: Data) -> Year
         ensures { result ≡ restated_in self before after }
     {
