@@ -1,4 +1,6 @@
 // What an entry of each kind does to its account and to the entry that it names.
+#![tactic(auto)]
+
 ghost use Rattle.std.specs.Prelude.{◌≡◌};
 ghost use Rattle.entries.specs.Data.{entry_of, with_of};
 ghost use Rattle.years.specs.Years.{posted_in, restated_in};
@@ -85,6 +87,7 @@ impl Change {
 
 impl Decision {
     // The refusal's number, and 0 where the entry is accepted.
+    #[tactic(auto, unfolding(crate::specs::Changes::decision_number))]
     pub fn refusal(self) -> u8
         ensures { result ≡ decision_number self }
     {
@@ -95,6 +98,7 @@ impl Decision {
     }
 
     // The answer, where the entry's number would be `number`.
+    #[tactic(auto, unfolding(crate::specs::Changes::answer_of))]
     pub fn answer(self, number: u16) -> PostingAnswer
         ensures { result ≡ answer_of self number }
     {
@@ -115,6 +119,7 @@ fn nothing() -> Amounts
 }
 
 // 1: held = amount.
+#[tactic(auto, unfolding(crate::specs::Changes::contribution_of))]
 fn contribution(raw: Raw, account: Account) -> Change
     ensures { result ≡ contribution_of raw account }
 {
@@ -134,6 +139,7 @@ fn contribution(raw: Raw, account: Account) -> Change
 }
 
 // 2: the refund is credited; what is left over is paid out.
+#[tactic(auto, unfolding(crate::specs::Changes::added_customer_of))]
 fn added_customer(raw: Raw, account: Account, i: usize, named_data: Data) -> Change
     ensures { result ≡ added_customer_of raw account i named_data }
 {
@@ -155,6 +161,7 @@ fn added_customer(raw: Raw, account: Account, i: usize, named_data: Data) -> Cha
 }
 
 // 3: billed is charged.
+#[tactic(auto, unfolding(crate::specs::Changes::bill_of))]
 fn bill(raw: Raw, account: Account) -> Change
     ensures { result ≡ bill_of raw account }
 {
@@ -171,6 +178,7 @@ fn bill(raw: Raw, account: Account) -> Change
 }
 
 // 4: credited; what is left over is added to credit.
+#[tactic(auto, unfolding(crate::specs::Changes::payment_of))]
 fn payment(raw: Raw, account: Account) -> Change
     ensures { result ≡ payment_of raw account }
 {
@@ -190,6 +198,7 @@ fn payment(raw: Raw, account: Account) -> Change
 }
 
 // 5: deposit held = amount.
+#[tactic(auto, unfolding(crate::specs::Changes::deposit_of))]
 fn deposit(raw: Raw, account: Account) -> Change
     ensures { result ≡ deposit_of raw account }
 {
@@ -206,6 +215,7 @@ fn deposit(raw: Raw, account: Account) -> Change
 }
 
 // 6: deposit and interest are credited together; what is left over is paid out; deposit held = 0.
+#[tactic(auto, unfolding(crate::specs::Changes::deposit_return_of))]
 fn deposit_return(raw: Raw, account: Account) -> Change
     ensures { result ≡ deposit_return_of raw account }
 {
@@ -222,6 +232,7 @@ fn deposit_return(raw: Raw, account: Account) -> Change
 }
 
 // 7: retained = held; held = 0; the contribution is closed.
+#[tactic(auto, unfolding(crate::specs::Changes::expiry_of))]
 fn expiry(raw: Raw, account: Account, i: usize, named_data: Data) -> Change
     ensures { result ≡ expiry_of raw account i named_data }
 {
@@ -242,6 +253,7 @@ fn pick(first: bool, a: Cents, b: Cents) -> Cents
 }
 
 // 8: a bill that grows, or a payment that shrinks, charges the difference; the others credit it, what is left over going to credit.
+#[tactic(auto, unfolding(crate::specs::Changes::correction_of))]
 fn correction(raw: Raw, account: Account, i: usize, named_data: Data) -> Change
     ensures { result ≡ correction_of raw account i named_data }
 {
@@ -269,6 +281,7 @@ fn correction(raw: Raw, account: Account, i: usize, named_data: Data) -> Change
 }
 
 // 9: guarantee held = amount; one is open.
+#[tactic(auto, unfolding(crate::specs::Changes::guarantee_of))]
 fn guarantee(raw: Raw, account: Account) -> Change
     ensures { result ≡ guarantee_of raw account }
 {
@@ -283,6 +296,7 @@ fn guarantee(raw: Raw, account: Account) -> Change
 }
 
 // 10: what is given back is credited; what is left over is paid out. `paid` is the sum of the payments in the reduction's window.
+#[tactic(auto, unfolding(crate::specs::Changes::reduction_of))]
 fn reduction(raw: Raw, account: Account, paid: Cents, i: usize, named_data: Data) -> Change
     ensures { result ≡ reduction_of raw account paid i named_data }
 {
@@ -300,6 +314,7 @@ fn reduction(raw: Raw, account: Account, paid: Cents, i: usize, named_data: Data
 }
 
 // 11: the rest is retained; held = 0; the guarantee is closed, and none is open.
+#[tactic(auto, unfolding(crate::specs::Changes::retention_of))]
 fn retention(raw: Raw, account: Account, i: usize, named_data: Data) -> Change
     ensures { result ≡ retention_of raw account i named_data }
 {
@@ -314,6 +329,7 @@ fn retention(raw: Raw, account: Account, i: usize, named_data: Data) -> Change
 }
 
 // 12: the amount is charged.
+#[tactic(auto, unfolding(crate::specs::Changes::late_charge_of))]
 fn late_charge(raw: Raw, account: Account) -> Change
     ensures { result ≡ late_charge_of raw account }
 {
@@ -322,6 +338,7 @@ fn late_charge(raw: Raw, account: Account) -> Change
 }
 
 // What an entry that names nothing does: of kind 1, 3, 4, 5, 9, 12 or else 6.
+#[tactic(auto, unfolding(crate::specs::Changes::own_change_of))]
 fn own_change(raw: Raw, kind: Kind, account: Account) -> Change
     ensures { result ≡ own_change_of raw kind account }
 {
@@ -348,6 +365,7 @@ fn own_change(raw: Raw, kind: Kind, account: Account) -> Change
 
 // What an entry does that names the one at place i: of kind 2, 7, 10, 11 or else 8. `paid` is the sum of the
 // payments in a reduction's window.
+#[tactic(auto, unfolding(crate::specs::Changes::naming_change_of))]
 fn naming_change(
     raw: Raw,
     kind: Kind,
@@ -374,6 +392,7 @@ fn naming_change(
 }
 
 // The refusal of an entry that names nothing, or what it does.
+#[tactic(auto, unfolding(entries::specs::Refusals::decided_of, crate::specs::Changes::own_decision_of))]
 pub fn own_decision(raw: Raw, kind: Kind, account: Account) -> Decision
     ensures { result ≡ own_decision_of raw kind account }
 {
@@ -384,6 +403,7 @@ pub fn own_decision(raw: Raw, kind: Kind, account: Account) -> Decision
 }
 
 // The refusal of an entry that names the one at place i, or what it does.
+#[tactic(auto, unfolding(entries::specs::Refusals::decided_of, crate::specs::Changes::naming_decision_of))]
 pub fn naming_decision(
     raw: Raw,
     kind: Kind,

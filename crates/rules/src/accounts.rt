@@ -42,6 +42,7 @@ impl Account {
     }
 
     // To credit an amount: arrears fall by the smaller of the two; the rest is left over.
+    #[tactic(auto, unfolding(crate::specs::Accounts::credited_of))]
     pub fn credited(mut self, amount: Cents) -> Credited
         ensures { result ≡ credited_of self amount }
     {
@@ -56,6 +57,7 @@ impl Account {
     }
 
     // What is left over is added to credit.
+    #[tactic(auto, unfolding(crate::specs::Accounts::plus_credit_of))]
     pub fn plus_credit(mut self, left: Cents) -> Account
         ensures { result ≡ plus_credit_of self left }
     {
@@ -64,6 +66,7 @@ impl Account {
     }
 
     // To charge an amount: credit falls by the smaller of the two; the rest is added to arrears.
+    #[tactic(auto, unfolding(crate::specs::Accounts::charged_of))]
     pub fn charged(mut self, amount: Cents) -> Account
         ensures { result ≡ charged_of self amount }
     {
@@ -73,6 +76,7 @@ impl Account {
         self
     }
 
+    #[tactic(auto, unfolding(crate::specs::Accounts::with_deposit_of))]
     pub fn with_deposit(mut self, deposit: Cents, rate: u64, deposited: Day) -> Account
         ensures { result ≡ with_deposit_of self deposit rate deposited }
     {
@@ -82,6 +86,7 @@ impl Account {
         self
     }
 
+    #[tactic(auto, unfolding(crate::specs::Accounts::with_guarantee_of))]
     pub fn with_guarantee(mut self, guarantee_open: bool) -> Account
         ensures { result ≡ with_guarantee_of self guarantee_open }
     {
@@ -89,6 +94,7 @@ impl Account {
         self
     }
 
+    #[tactic(auto, unfolding(crate::specs::Accounts::with_newest_of))]
     pub fn with_newest(mut self, newest: u16) -> Account
         ensures { result ≡ with_newest_of self newest }
     {

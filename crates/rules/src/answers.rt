@@ -45,6 +45,7 @@ impl Amounts {
 }
 
 impl PostingAnswer {
+    #[tactic(auto, unfolding(crate::specs::Answers::posting_reply_of))]
     pub fn reply(self) -> PostingReply
         ensures { result ≡ posting_reply_of self }
     {

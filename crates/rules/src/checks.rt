@@ -45,6 +45,7 @@ fn deposit_clash(kind: Kind, held: Cents) -> bool
 }
 
 // 9, 24 and 10 of an entry that names nothing.
+#[tactic(auto, unfolding(crate::specs::Checks::check_own_of))]
 pub fn check_own(raw: Raw, kind: Kind, account: Account) -> Check
     ensures { result ≡ check_own_of raw kind account }
 {
@@ -62,6 +63,7 @@ pub fn check_own(raw: Raw, kind: Kind, account: Account) -> Check
 }
 
 // 8, for the kind of the named entry, 10 to 13, 25, 26 and 14 to 16 of an entry that names one.
+#[tactic(auto, unfolding(crate::specs::Checks::check_naming_of))]
 pub fn check_naming(raw: Raw, kind: Kind, entry: Entry) -> Check
     ensures { result ≡ check_naming_of raw kind entry }
 {

@@ -6,6 +6,7 @@ use entries::{Kind, Particulars};
 use measures::{Cents, Metres, product, quotient, smaller};
 
 // The charge for the full period, for the days served of it.
+#[tactic(auto, unfolding(crate::specs::Formulas::billed_of))]
 pub fn billed(charge: Cents, served: u8, period: u16) -> Cents
     ensures { result ≡ billed_of charge served period }
 {
@@ -14,6 +15,7 @@ pub fn billed(charge: Cents, served: u8, period: u16) -> Cents
 
 // What one more customer on the line gives back: its share, and not more than is held. Cents and metres are unwrapped, and the
 // refund is cents again.
+#[tactic(auto, unfolding(crate::specs::Formulas::refund_of))]
 pub fn refund(particulars: Particulars, shared: Metres) -> Cents
     ensures { result ≡ refund_of particulars shared }
 {
@@ -29,6 +31,7 @@ pub fn refund(particulars: Particulars, shared: Metres) -> Cents
 const RATE_YEAR: u64 = 3650000;
 
 // The interest on a deposit at a yearly rate in hundredths of a percent, for a number of days.
+#[tactic(auto, unfolding(crate::specs::Formulas::interest_of))]
 pub fn interest(deposit: Cents, rate: u64, days: u16) -> Cents
     ensures { result ≡ interest_of deposit rate days }
 {
@@ -36,6 +39,7 @@ pub fn interest(deposit: Cents, rate: u64, days: u16) -> Cents
 }
 
 // What a reduction gives back: a tenth of the payments in its window, and not more than is held.
+#[tactic(auto, unfolding(crate::specs::Formulas::given_back_of))]
 pub fn given_back(held: Cents, paid: Cents) -> Cents
     ensures { result ≡ given_back_of held paid }
 {
@@ -46,6 +50,7 @@ pub fn given_back(held: Cents, paid: Cents) -> Cents
 const RATE_WHOLE: u64 = 10000;
 
 // The amount of a late charge on noted arrears at a rate in hundredths of a percent, at most the largest amount of an entry.
+#[tactic(auto, unfolding(crate::specs::Formulas::late_amount_of))]
 pub fn late_amount(noted: Cents, rate: u16) -> Cents
     ensures { result ≡ late_amount_of noted rate }
 {

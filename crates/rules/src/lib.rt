@@ -1,4 +1,6 @@
 // The rules on small values: an entry as given, its account and the entry that it names.
+#![tactic(auto)]
+
 mod accounts;
 mod answers;
 mod checks;

@@ -19,6 +19,7 @@ fn in_window(dated: u16, day: u16) -> bool
 }
 
 // What an entry counts for a reduction of a day: the standing amount of a payment dated in its window, and else 0.
+#[tactic(auto, unfolding(crate::specs::Windows::paid_within))]
 pub fn paid_within(entry: Entry, day: u16) -> Cents
     ensures { result ≡ paid_within entry day }
 {
