@@ -1,4 +1,6 @@
 // The contribution book.
+#![tactic(auto)]
+
 ghost use Rattle.std.specs.Prelude.{◌≡◌, ◌-◌};
 ghost use Rattle.entries.specs.Kinds.{kind_of};
 ghost use Rattle.entries.specs.Data.{points_at};
@@ -77,6 +79,7 @@ pub struct Posted {
 }
 
 impl Serials {
+    #[tactic(auto, unfolding(crate::specs::Serials::last_of))]
     pub fn of(self, node: u8) -> u32
         ensures { result ≡ last_of self node }
     {
@@ -84,6 +87,7 @@ impl Serials {
     }
 
     // After an entry of node 1 or 2.
+    #[tactic(auto, unfolding(crate::specs::Serials::after_of))]
     pub fn after(self, raw: Raw) -> Serials
         ensures { result ≡ after_of self raw }
     {
@@ -120,6 +124,7 @@ impl Run {
     }
 
     // How a posted entry comes in.
+    #[tactic(auto, unfolding(crate::specs::Runs::arrival_of))]
     pub fn arrival(self) -> Arrival
         ensures { result ≡ arrival_of self }
     {
@@ -132,6 +137,7 @@ impl Run {
 }
 
 // The place of an account, and 0 where there is no such account.
+#[tactic(auto, unfolding(crate::specs::Chain::slot_of))]
 pub fn slot(account: u16) -> usize
     ensures { result ≡ slot_of account }
 {
@@ -143,6 +149,7 @@ pub fn slot(account: u16) -> usize
 }
 
 // Whether a chain ends at a link.
+#[tactic(auto, unfolding(crate::specs::Chain::ends_of))]
 pub fn ends(at: u16) -> bool
     ensures { result ≡ ends_of at }
 {
@@ -153,6 +160,7 @@ pub fn ends(at: u16) -> bool
 }
 
 // Where a search begins: at 0, the end of every chain, where the kind names nothing.
+#[tactic(auto, unfolding(crate::specs::Chain::start_of))]
 fn start(kind: Kind, newest: u16) -> u16
     ensures { result ≡ start_of kind newest }
 {
@@ -166,6 +174,7 @@ fn less_one(n: u16) -> u16
 }
 
 // The place of the entry of a number, and 0 at the end of a chain.
+#[tactic(auto, unfolding(crate::specs::Chain::place_of))]
 fn place(at: u16) -> usize
     ensures { result ≡ place_of at }
 {
@@ -176,6 +185,7 @@ fn place(at: u16) -> usize
 }
 
 // A walk goes on while links are left and the chain does not end.
+#[tactic(auto, unfolding(crate::specs::Chain::walks_of))]
 fn walks(at: u16, left: u16) -> bool
     ensures { result ≡ walks_of at left }
 {
@@ -201,6 +211,7 @@ impl Search {
         Search::along(start(Kind::of(raw.kind), newest))
     }
 
+    #[tactic(auto, unfolding(crate::specs::Search::goes_on_of))]
     pub fn goes_on(self) -> bool
         ensures { result ≡ goes_on_of self }
     {
@@ -215,6 +226,7 @@ impl Search {
     }
 
     // After a look at the entry that it stands at: whether that is the one, and its next index.
+    #[tactic(auto, unfolding(crate::specs::Search::past_of))]
     pub fn look(self, hit: bool, next: u16) -> Search
         ensures { result ≡ past_of self hit next }
     {
@@ -240,6 +252,7 @@ impl Search {
         self.look(raw.points_at(entry), entry.next)
     }
 
+    #[tactic(auto, unfolding(crate::specs::Search::found_of))]
     fn lookup(self) -> Found
         ensures { result ≡ found_of self }
     {
@@ -251,6 +264,7 @@ impl Search {
 }
 
 // Where a window's walk begins: at 0, the end of every chain, where the kind is no reduction.
+#[tactic(auto, unfolding(crate::specs::Window::window_start))]
 fn window_start(kind: Kind, newest: u16) -> u16
     ensures { result ≡ window_start kind newest }
 {
@@ -284,6 +298,7 @@ impl Window {
     }
 
     // After a look at the entry that it stands at.
+    #[tactic(auto, unfolding(crate::specs::Window::onward_of))]
     pub fn past(self, entry: Entry) -> Window
         ensures { result ≡ onward_of self entry }
     {
@@ -297,6 +312,7 @@ impl Window {
 }
 
 // 1 to 7, 30 after 5 and 27 before 7: the refusals that the entry, how it comes in, its node's last serial and the number of entries decide.
+#[tactic(auto, unfolding(crate::specs::Refusals::check_entry_of))]
 fn check_entry(raw: Raw, kind: Kind, arrival: Arrival, count: u16, last: u32) -> Check
     ensures { result ≡ check_entry_of raw kind arrival count last }
 {
@@ -317,6 +333,7 @@ fn check_entry(raw: Raw, kind: Kind, arrival: Arrival, count: u16, last: u32) ->
 
 // The refusal of an entry, or what it does, after the search for the entry that it names. `entry` is the one that the search stands at,
 // `paid` is the sum of the payments in a reduction's window.
+#[tactic(auto, unfolding(crate::specs::Refusals::decision_by, crate::specs::Refusals::searched_of, entries::specs::Refusals::decided_of))]
 pub fn decision(
     raw: Raw,
     arrival: Arrival,
@@ -349,6 +366,7 @@ impl Book {
     pub const ENTRIES: usize = 1024;
 
     // The book with no entries.
+    #[tactic(auto, unfolding(crate::specs::Fresh::fresh_book))]
     pub fn fresh() -> Book
         ensures { result ≡ fresh_book }
     {
@@ -369,6 +387,7 @@ impl Book {
     }
 
     // Posts an entry, during a run where one is open.
+    #[tactic(auto, unfolding(crate::specs::Posting::post_of))]
     pub fn post(self, raw: Raw) -> Posted
         ensures { posted_reply result ≡ post_of self raw }
     {
@@ -377,6 +396,7 @@ impl Book {
     }
 
     // An entry comes in.
+    #[tactic(auto, unfolding(crate::specs::Window::onward_of, changes::specs::Changes::answer_of))]
     pub fn enter(mut self, raw: Raw, arrival: Arrival) -> Posted
         ensures { posted_reply result ≡ enter_of arrival self raw }
     {
