@@ -27,6 +27,7 @@ large = 1000000000000
 
 -- what every entry that joins has, each of a history has
 each_has : (P : Raw → Type 0) → ((h : History) (r : Raw) → judge h r ≡ 0 → P r) → {h : History} → Valid h → (e : Raw) → In e h → P e
+each_has P has empty e m = elim m [ ]
 each_has P has (joins {r} {h} v j) e (newest q) = subst P q (has h r j)
 each_has P has (joins v j) e (older t) = each_has P has v e t
 

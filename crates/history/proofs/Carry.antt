@@ -51,7 +51,7 @@ pub posts_same : (way : Arrival) {b : Book} {h : History} → Kept b h → arriv
 unfolding posts_of refusals_of
 posts_same way w so [] = (w, refl)
 posts_same way {b} {h} w so (r ∷ rs) =
-    let rest = posts_same way (posted_kept way w so r) (so_again way w so r) rs in
+    let rest = posts_same way {b = (post_of b r).book} {h = offer way h r} (posted_kept way w so r) (so_again way w so r) rs in
     (rest.0, ap₂ (λ n ns. n ∷ ns) (ap (λ (x : PostingReply). x.refusal) (posted_same way w so r) ∙ replied_number way h r) rest.1)
 
 module _ (way : Arrival) {b : Book} {h : History} (w : Kept b h) (so : arrival_of b.run ≡ way) (rs : List Raw) (results : List ℕ) where

@@ -269,6 +269,7 @@ module _ {h : History} (v : Valid h) (r : Raw) (j : judge h r ≡ 0) where
       (parted r e (paid_by h r) (fate h e) b _ _ _ (still_open h e) l (kind_of r.kind) (kind_of e.kind) p.0 w.suited (accepts_upon h r j p.0 w.place e w.at).unclosed)
 
 pub divide : {h : History} → Valid h → (e : Raw) → In e h → Parted h e
+divide empty e m = elim m [ ]
 divide (joins {r} {h} v j) e (newest q) = subst (λ y. Parted (r ∷ h) y) q (divided_new v r j)
 divide (joins {r} {h} v j) e (older t) = go (divide v e t) (names r e) refl
   where

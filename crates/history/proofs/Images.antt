@@ -80,7 +80,7 @@ record_kept all h r j =
     let p = accepts h r j in
     let g = p.ranges.by_kind in
     ap (λ (x : Raw). record { raw = x; next = newest_of h r.account })
-    (raw_kept r (kind_of r.kind) _ _ _ _ (number_again r.kind p.kind_known) g (unnamed r _ g.named) (at_most r _ _ g.b))
+    (raw_kept r (kind_of r.kind) _ _ _ (newest_of h r.account) (number_again r.kind p.kind_known) g (unnamed r _ g.named) (at_most r _ _ g.b))
 
 -- AND SO IS THE IMAGE
 

@@ -50,8 +50,8 @@ offered P w h r joined-holds holds = go (judge_by w h r) refl
 
 -- what offers give, from a valid history on
 pub valid_offers : (w : Arrival) {h : History} → Valid h → (rs : List Raw) → Valid (offers w h rs)
-valid_offers w v [] = v
-valid_offers w {h} v (r ∷ rs) = valid_offers w (offered Valid w h r (λ j. joins v (recorded w h r j)) v) rs
+valid_offers w {h} v [] = v
+valid_offers w {h} v (r ∷ rs) = valid_offers w {h = offer w h r} (offered Valid w h r (λ j. joins v (recorded w h r j)) v) rs
 
 pub laws : Laws
 laws = record { valid = λ w rs. valid_offers w empty rs; lawful = lawful; bounded = within }

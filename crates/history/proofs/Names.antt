@@ -209,6 +209,7 @@ hits (joins {r = x} {h = g} v j) c i e k f = go (λ q. hits v c i e k q) (points
 
 -- no two entries carry the same node and serial
 in_serial : {h : History} → Valid h → (e : Raw) → In e h → e.serial ≤ last_serial h e.node
+in_serial empty e m = elim m [ ]
 in_serial (joins {r} {h} v j) e (newest q) = subst (λ (y : Raw). y.serial ≤ last_serial (r ∷ h) y.node) q (omega (arith, last_own h r))
 in_serial (joins {r} {h} v j) e (older t) = omega (arith, in_serial v e t, last_up h r e.node j)
 
@@ -219,6 +220,7 @@ serial_new {h} v r x y j q t n s =
     omega (arith, in_serial v y t)
 
 unique : {h : History} → Valid h → (x y : Raw) → In x h → In y h → x.node ≡ y.node → x.serial ≡ y.serial → x ≡ y
+unique empty x y m _ n s = elim m [ ]
 unique (joins v j) x y (newest p) (newest q) n s = sym p ∙ q
 unique (joins {r} v j) x y (newest p) (older t) n s = absurd (serial_new v r x y j p t n s)
 unique (joins {r} v j) x y (older t) (newest q) n s = absurd (serial_new v r y x j q t (sym n) (sym s))
@@ -273,6 +275,7 @@ with_newer : {r : Raw} {h : History} (c : Raw) → Refunded h c → Refunded (r 
 with_newer c w = let x = w.0 in (record { entry = x.entry; member = older x.member; contribution = x.contribution; aimed = x.aimed }, w.1)
 
 refunded : {h : History} → Valid h → (c : Raw) → In c h → kind_of c.kind ≡ kind.AddedCustomer → Refunded h c
+refunded empty c m k = elim m [ ]
 refunded (joins {r} {h} v j) c (newest q) k =
     subst (λ y. kind_of y.kind ≡ kind.AddedCustomer → Refunded (r ∷ h) y) q (λ k. with_newer r (refunded_new v r j k)) k
 refunded (joins v j) c (older t) k = with_newer c (refunded v c t k)
@@ -287,6 +290,7 @@ in_period v c e m n k p =
 -- an entry that a correction of the history names is corrected
 corrected_by : (h : History) (d e : Raw) → In d h → kind_of d.kind ≡ kind.Correction → points d e ≡ true → (fate h e).corrected ≡ true
 unfolding fate
+corrected_by [] d e m k p = elim m [ ]
 corrected_by (r ∷ h) d e (newest q) k p =
     let hitting : names r e ≡ true = subst (λ y. names y e ≡ true) (sym q) (names_points d e (ap naming k) p) in
     let corrects : kind_of r.kind ≡ kind.Correction = subst (λ (y : Raw). kind_of y.kind ≡ kind.Correction) (sym q) k in

@@ -58,7 +58,7 @@ chain_reads all (r ∷ h) a = go (chain_reads all h a) (eqb r.account a)
 reads_taken : {all : History} {es : List Entry} {rs : History} (n : ℕ) → Reads all es rs → Reads all (take n es) (take n rs)
 reads_taken zero w = none
 reads_taken (suc n) none = none
-reads_taken (suc n) (link h w) = link h (reads_taken n w)
+reads_taken {all = all} (suc n) (link h {e = e} {es = es} {rs = rs} w) = link h (reads_taken {all = all} {es = es} {rs = rs} n w)
 
 reads_length : {all : History} {es : List Entry} {rs : History} → Reads all es rs → length es ≡ length rs
 reads_length none = refl
