@@ -41,6 +41,7 @@ pub struct ContributionReply {
 }
 
 impl ContributionAnswer {
+    #[tactic(auto, unfolding(crate::specs::Contributions::contribution_reply_of))]
     pub fn reply(self) -> ContributionReply
         ensures { result ≡ contribution_reply_of self }
     {
@@ -82,6 +83,7 @@ fn check_query(account: u16, node: u8) -> Check
 }
 
 // The figures of a contribution; 8 for any other entry.
+#[tactic(auto, unfolding(entries::specs::Data::case_of, crate::specs::Contributions::contribution_reply_of, crate::specs::Contributions::contribution_figures_of))]
 fn figures(data: Data) -> ContributionAnswer
     ensures { contribution_reply_of result ≡ contribution_figures_of «data» }
 {
@@ -110,6 +112,7 @@ fn figures(data: Data) -> ContributionAnswer
 }
 
 // What is known of the contribution that carries a pair of node and serial, sought along an account's chain.
+#[tactic(auto, unfolding(entries::specs::Refusals::decided_of, crate::specs::Contributions::contribution_query_of, book::proofs::SearchLaws::finds_of, crate::specs::Contributions::known_of, book::specs::Search::found_of))]
 pub fn contribution_query(book: Book, account: u16, node: u8, serial: u32) -> ContributionAnswer
     ensures { contribution_reply_of result ≡ contribution_query_of book account node serial }
 {

@@ -1,4 +1,6 @@
 // The calls that only read the book: the statement and the contribution query.
+#![tactic(auto)]
+
 mod contributions;
 mod statements;
 

@@ -43,6 +43,7 @@ pub struct StatementReply {
 }
 
 impl StatementAnswer {
+    #[tactic(auto, unfolding(crate::specs::Statements::statement_reply_of))]
     pub fn reply(self) -> StatementReply
         ensures { result ≡ statement_reply_of self }
     {
@@ -85,6 +86,7 @@ struct Sums {
 }
 
 // The standing amount of an entry that counts, and 0 of another.
+#[tactic(auto, unfolding(crate::specs::Walk::standing_in))]
 fn standing(particulars: Particulars, counts: bool) -> Cents
     ensures { result ≡ standing_in counts particulars }
 {
@@ -109,6 +111,7 @@ impl Sums {
     }
 
     // After one entry more. It is read where fewer than the allowance were before it.
+    #[tactic(auto, unfolding(crate::specs::Walk::sums_with))]
     fn with(self, entry: Entry, allowance: u64) -> Sums
         ensures { result ≡ sums_with self entry allowance }
     {
@@ -140,6 +143,7 @@ impl Sums {
     }
 
     // The statement of an account whose whole chain was walked.
+    #[tactic(auto, unfolding(crate::specs::Walk::statement_figures_of))]
     fn figures(self, account: Account, allowance: u64) -> StatementFigures
         ensures { result ≡ statement_figures_of self account allowance }
     {
