@@ -1,4 +1,6 @@
 // The carry-over of the other node's entries.
+#![tactic(auto)]
+
 ghost use Rattle.std.specs.Prelude.{◌≡◌};
 ghost use Rattle.rules.specs.Answers.{posting_reply_of};
 ghost use Rattle.carry.specs.Carry.{carry_number_of, carried_reply, carry_of, carry_results_of};
@@ -22,6 +24,7 @@ pub struct Carried {
 
 impl CarryAnswer {
     // The refusal's number, and 0 where the carry-over is accepted.
+    #[tactic(auto, unfolding(crate::specs::Carry::carry_number_of))]
     pub fn number(self) -> u8
         ensures { result ≡ carry_number_of self }
     {

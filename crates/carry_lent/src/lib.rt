@@ -1,4 +1,6 @@
 // The carry-over of an array's first entries.
+#![tactic(auto)]
+
 ghost use Rattle.std.specs.Prelude.{◌≡◌, min, take};
 ghost use Rattle.carry.specs.Carry.{carried_reply, carry_of, carry_results_of};
 ghost use Rattle.carry_lent.specs.Lent.{at_once};
