@@ -1,4 +1,6 @@
 // Lines of text, each a letter and decimal numbers: how they are read and written, and which are understood.
+#![tactic(auto)]
+
 mod lists;
 mod reading;
 mod shapes;

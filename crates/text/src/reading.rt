@@ -25,6 +25,7 @@ pub struct Parsed {
 }
 
 // A digit's value, and 10 for any other byte.
+#[tactic(auto, unfolding(crate::specs::Reading::digit_of))]
 fn digit(byte: u8) -> u64
     ensures { (result ≤ 10) × (result ≡ digit_of byte) }
 {
@@ -39,6 +40,7 @@ fn digit(byte: u8) -> u64
 }
 
 // The number that begins at a place. Where none does, or one beyond 64 bits, the place after it is the place itself.
+#[tactic(auto, using(crate::proofs::ReadingLaws::number_ends, crate::proofs::ReadingLaws::number_stops, crate::proofs::ReadingLaws::number_beyond, crate::proofs::ReadingLaws::number_goes_on))]
 pub fn number(line: &[u8], from: usize) -> Parsed
     ensures { (from ≤ result.next) × (result ≡ number_in from (drop from line.now) 0 from) }
 {

@@ -1,14 +1,16 @@
 // A line of an answer: its letter and decimal numbers, with one space between.
-ghost use Rattle.io.specs.Counts.{IsPrefixLen};
+ghost use Rattle.std.specs.Prelude.{◌≡◌, ◌≤◌, length, take};
 
 use crate::lists::at as nth;
+use decimal::put_columns;
+use std::io;
 
 // The longest answer: a letter, 1,024 numbers with a space before each, and the end of the line.
 const LONGEST_ANSWER: usize = 21506;
 
 // A number of a list's bytes: all of them where there are no more.
 pub fn first(bytes: &[u8], n: usize) -> usize
-    ensures { IsPrefixLen result bytes.now }
+    ensures { (result ≤ length bytes.now) × (result ≡ length (take result bytes.now)) }
 {
     if n < bytes.len() {
         return n;
@@ -27,10 +29,9 @@ pub fn put(text: &mut [u8], at: usize, byte: u8) -> usize {
 
 // Puts a space and a number.
 fn number(text: &mut [u8], at: usize, n: u64) -> usize {
-    let mut shown = [0u8; 20];
-    let k = io::decimal(n, &mut shown);
+    let shown = decimal::number(n);
     let from = put(text, at, b' ');
-    buffers::put(text, from, &shown[..k])
+    put_columns(text, from, shown, shown.length)
 }
 
 // Puts a letter and the first so many numbers, and the end of the line, and gives the length.
@@ -45,9 +46,9 @@ fn spell(text: &mut [u8], letter: u8, numbers: &[u64], count: usize) -> usize {
 }
 
 // Writes a letter and the first so many numbers to standard output as a line.
-pub fn write(letter: u8, numbers: &[u64], count: usize) {
+pub fn write(rt: &impl Print, letter: u8, numbers: &[u64], count: usize) -> io::Result<()> {
     let mut text = [0u8; LONGEST_ANSWER];
     let end = spell(&mut text, letter, numbers, count);
     let n = first(&text, end);
-    io::write_all(1, &text[..n]);
+    rt.write_all(&text[..n])
 }
