@@ -1,4 +1,6 @@
 // A save: the image of a book, written into a lent buffer.
+#![tactic(auto)]
+
 ghost use Rattle.std.specs.Prelude.{◌≡◌, ◌+◌, ◌≤◌, min};
 ghost use Rattle.measures.specs.Cents.{cents};
 ghost use Rattle.entries.specs.declared.kinds.Kind.TheVariants as kind;
@@ -70,6 +72,7 @@ fn customer(entry: Entry, node: u8, serial: u32, shared: Metres, phases: u8) -> 
 }
 
 // The entry as it was given.
+#[tactic(auto, unfolding(crate::specs::Saves::raw_of))]
 pub fn raw_of(entry: Entry) -> Raw
     ensures { result ≡ raw_of entry }
 {
@@ -119,6 +122,7 @@ pub fn entry_count(count: u16) -> u16
 }
 
 // Writes the image of a book that has no run open (29) at the start of a buffer that has room for it (21).
+#[tactic(auto, unfolding(crate::specs::Saves::save_reply_of))]
 pub fn save(book: Book, buf: &mut [u8]) -> SaveAnswer
     ensures { (save_reply_of result ≡ save_of book buf.old) × (buf.new ≡ saved_in book buf.old) }
 {
