@@ -1,4 +1,6 @@
 // Late-charge runs: an opening, a step and a close.
+#![tactic(auto)]
+
 ghost use Rattle.std.specs.Prelude.{◌≡◌, map, drop, ◌+◌};
 ghost use Rattle.book.specs.Posting.{posted_reply};
 ghost use Rattle.runs.specs.Runs.{arrears_of, next_noted, next_serial, without_run, goes_on_after, charge_of, check_opening_of, run_number_of, ran_reply, open_run_of, step_of, close_run_of};
@@ -23,6 +25,7 @@ pub struct Ran {
 
 impl RunAnswer {
     // The refusal's number, and 0 where the call is accepted.
+    #[tactic(auto, unfolding(crate::specs::Runs::run_number_of))]
     pub fn number(self) -> u8
         ensures { result ≡ run_number_of self }
     {
@@ -37,6 +40,7 @@ impl RunAnswer {
 const RATE_MOST: u16 = 1000;
 
 // 28 of an opening: a run is open, or the node, the day or the rate is out of range.
+#[tactic(auto, unfolding(crate::specs::Runs::check_opening_of))]
 fn check_opening(run: Run, node: u8, day: u16, rate: u16) -> Check
     ensures { result ≡ check_opening_of run node day rate }
 {
@@ -64,6 +68,7 @@ fn arrears_of(accounts: [Account; Book::ACCOUNTS]) -> [Cents; Book::ACCOUNTS]
 }
 
 // The first account after `charged` that has noted arrears, and 0 where none is left.
+#[tactic(auto, using(crate::proofs::RunsLaws::noted_step, crate::proofs::RunsLaws::noted_past))]
 fn next_noted(noted: [Cents; Book::ACCOUNTS], charged: u16) -> u16
     ensures { result ≡ next_noted (charged + 1) (drop charged noted) }
 {
@@ -79,6 +84,7 @@ fn next_noted(noted: [Cents; Book::ACCOUNTS], charged: u16) -> u16
 }
 
 // The book with no run open.
+#[tactic(auto, unfolding(crate::specs::Runs::without_run))]
 fn without_run(mut book: Book) -> Book
     ensures { result ≡ without_run book }
 {
@@ -89,6 +95,7 @@ fn without_run(mut book: Book) -> Book
 }
 
 // The run goes on at the first account after `charged` that has noted arrears; where none is left, it is over.
+#[tactic(auto, unfolding(crate::specs::Runs::goes_on_at))]
 fn go_on(mut book: Book, run: Run, noted: [Cents; Book::ACCOUNTS], charged: u16) -> Book
     ensures { result ≡ goes_on_after book run noted charged }
 {
@@ -119,6 +126,7 @@ fn next_serial(last: u32) -> u32
 }
 
 // The entry by which a run charges the account that comes next, on its noted arrears.
+#[tactic(auto, using(crate::proofs::RunsLaws::late_most), unfolding(crate::specs::Runs::charge_of))]
 fn charge(run: Run, noted: Cents, last: Serials) -> Raw
     ensures { result ≡ charge_of run noted last }
 {
@@ -139,6 +147,7 @@ fn charge(run: Run, noted: Cents, last: Serials) -> Raw
 }
 
 // Opens a run: every account's arrears are noted.
+#[tactic(auto, unfolding(crate::specs::Runs::open_run_of, entries::specs::Refusals::decided_of, crate::specs::Runs::run_number_of))]
 pub fn open_run(book: Book, node: u8, day: u16, rate: u16) -> Ran
     ensures { ran_reply result ≡ open_run_of book node day rate }
 {
@@ -164,6 +173,7 @@ pub fn open_run(book: Book, node: u8, day: u16, rate: u16) -> Ran
 }
 
 // A step: charges the account that comes next. A refused one leaves the run at its account.
+#[tactic(auto, using(book::proofs::Chain::slot_inside), unfolding(crate::specs::Runs::step_of, rules::specs::Answers::posting_reply_of))]
 pub fn step(book: Book) -> Posted
     ensures { posted_reply result ≡ step_of book }
 {
@@ -191,6 +201,7 @@ pub fn step(book: Book) -> Posted
 }
 
 // Closes the run before its last account is charged.
+#[tactic(auto, unfolding(crate::specs::Runs::run_number_of, crate::specs::Runs::close_run_of))]
 pub fn close_run(book: Book) -> Ran
     ensures { ran_reply result ≡ close_run_of book }
 {
