@@ -144,22 +144,6 @@ turn {es} row r before buf next whole at to link onward left e line same room h 
       text = line_text row r rows before buf next whole at to e line fits put (rw rest at k.text);
     }
 
--- before the first turn, and what all turns leave
-abbrev pub whole_from : List Entry → List ℕ → ℕ → ℕ → List ℕ
-whole_from es buf at link = take at buf ++ text_of (rest_of es entries_shown link)
-
-pub since : {es : List Entry} (before between buf whole : List ℕ) (from at start link left : ℕ) → Begun es before between whole from start entries_shown →
-    Begun es between buf (whole_from es between from start) at link left → Begun es before buf whole at link left
-since before between buf whole from at start link left k m =
-    let n : at ≡ from + (at - from) = omega (arith, k.counted, m.counted, m.shown) in
-    record {
-      shown = m.shown;
-      long = m.long ∙ k.long;
-      counted = m.counted;
-      after = m.after ∙ (rw (n, ← drop-drop (at - from) from between, ← drop-drop (at - from) from before) (ap (λ (l : List ℕ). drop (at - from) l) k.after));
-      text = m.text ∙ k.text;
-    }
-
 pub turn_blank : {es : List Entry} (row before buf next whole : List ℕ) (at to link left : ℕ) → row ≡ blank_row → length next ≡ length buf →
     page_bytes ≤ length before → 0 < left → ends_of link ≡ true → Begun es before buf whole at link left → written next to ≡ written_at row at buf →
     Begun es before next whole to link (left - 1)

@@ -1,4 +1,6 @@
 // The statement page of an account, written into a lent buffer.
+#![tactic(auto)]
+
 mod rows;
 
 ghost use Rattle.std.specs.Prelude.{◌+◌, ◌*◌, ◌≤◌, ◌<◌, ◌≡◌, length};
@@ -30,6 +32,7 @@ pub enum PageAnswer {
 }
 
 // A bill's or payment's standing amount, else the posted one, which is zero where the kind has none.
+#[tactic(auto, unfolding(crate::specs::Pages::shown_amount))]
 fn shown_amount(entry: Entry) -> u64
     ensures { result ≡ shown_amount entry }
 {
@@ -43,6 +46,7 @@ fn shown_amount(entry: Entry) -> u64
 }
 
 // What a page's line shows of the entry of a number.
+#[tactic(auto, unfolding(crate::specs::Pages::entry_line_of))]
 fn entry_line(number: u16, entry: Entry) -> EntryLine
     ensures { result ≡ entry_line_of number entry }
 {

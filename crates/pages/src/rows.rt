@@ -17,6 +17,7 @@ pub struct EntryLine {
     pub amount: u64,
 }
 
+#[tactic(auto, unfolding(crate::specs::Rows::blank_row, decimal::specs::Decimal::right))]
 pub fn blank_row() -> [u8; LINE]
     ensures { result ≡ blank_row }
 {
