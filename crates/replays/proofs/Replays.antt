@@ -1,10 +1,10 @@
 -- Laws of records that come in one after another, record by record.
-use Prim.Native.Nat.{ℕ, suc, ◌+◌, ◌*◌, ◌-◌, ◌/◌, ◌<◌, ◌≤◌}
+use Prim.Native.Nat.{ℕ, suc, ◌+◌, ◌*◌, ◌-◌, ◌/◌, ◌<◌}
 use mathlib.Core.Path.{◌≡◌, refl, sym, ap, ◌∙◌}
 use mathlib.Core.Bool.{Bool, true, false, cond, not, ◌&&◌}
 use mathlib.Core.List.{List, ◌∷◌}
 use native.Mathlib.Omega.{arith}
-use lib.ListN.{length, take, drop, set, length-set, length-drop}
+use lib.ListN.{length, get_or, take, drop, set, length-drop}
 use lib.Seq.{drop-drop, take_all}
 use lib.Dec.{eqb}
 use borrow.Author.Tests.{ne_eqb}
@@ -15,18 +15,21 @@ use Rattle.entries.specs.declared.arrivals.Arrival.TheVariants.{Recorded}
 use Rattle.entries.specs.declared.raw.Raw.{Raw}
 use Rattle.entries.specs.declared.refusals.Refusal.{Refusal}
 use Rattle.entries.specs.declared.refusals.Refusal.TheVariants as no
+use Rattle.entries.specs.declared.refusals.Check.{Check}
 use Rattle.entries.specs.declared.refusals.Check.TheVariants as check
 use Rattle.entries.proofs.RefusalsLaws.{refusal_above, is_refusal, check_number}
+use Rattle.rules.specs.Accounts.{no_account}
 use Rattle.rules.specs.Answers.{posting_reply_of}
 use Rattle.changes.specs.Changes.{decision_number, answer_of}
 use Rattle.changes.specs.declared.Decision.{Decision}
 use Rattle.changes.specs.declared.Decision.TheVariants.{Refused, Accepted}
 use Rattle.codec.specs.Records.{record_bytes, decode_record, record_in, decode_all}
 use Rattle.codec.specs.declared.Record.{Record}
+use Rattle.book.specs.Chain.{slot_of}
 use Rattle.book.specs.Posting.{account_at, decision_of, enter_of}
 use Rattle.book.specs.declared.Book.{Book}
 use Rattle.replays.specs.Loaded.{accepted_load, refused_load, record_refusal}
-use Rattle.replays.specs.Replays.{listed_in, arrives, comes_in, stop_of, replay_of}
+use Rattle.replays.specs.Replays.{arrives, comes_in, stop_of, replay_of}
 
 -- WHAT ENDS AN IMAGE
 
@@ -94,9 +97,6 @@ record_part s i = ap decode_record (take_all (length s - record_bytes * i) (drop
 abbrev pub rest_of : List ℕ → ℕ → List Record
 rest_of s i = decode_all (length s / record_bytes - i) (drop (record_bytes * i) s)
 
-pub rest_start : (s : List ℕ) → listed_in s ≡ rest_of s 0
-rest_start s = let z : length s / record_bytes - 0 ≡ length s / record_bytes = omega arith in rw z refl
-
 rest_step : (s : List ℕ) (i : ℕ) → i < length s / record_bytes → rest_of s i ≡ record_in s i ∷ rest_of s (i + 1)
 rest_step s i h =
     let d : record_bytes * i + record_bytes ≡ record_bytes * (i + 1) = omega arith in
@@ -105,27 +105,30 @@ rest_step s i h =
     left : (n i : ℕ) → i < n → n - i ≡ suc (n - (i + 1))
     left n i h = omega arith
 
-pub replay_less : (n i : ℕ) → i < n → n - (i + 1) < n - i
-replay_less n i h = omega arith
+-- what a turn knows: its record, the decision on the record's entry, and what ends an image there
+module _ (image : Bool) (b : Book) (s l m : List ℕ) (i a n : ℕ) (r : Record) (o : Decision) (stop : Check)
+    (h : i < length s / record_bytes) (is : r ≡ record_in s i) (slot : a ≡ slot_of r.raw.account) (decided : o ≡ decision_of (arrives image b.run) b r.raw)
+    (number : n ≡ decision_number o) (marked : m ≡ set l i n) (stopped : stop ≡ stop_of o image r.next (get_or b.accounts a no_account).newest) where
+  numbered : n ≡ (comes_in image b r.raw).reply.refusal
+  numbered = number ∙ ap decision_number decided ∙ decision_number_lem (arrives image b.run) b r.raw
 
--- a record that ends nothing
-pub replay_step : (image : Bool) (b next : Book) (s l m : List ℕ) (i n : ℕ) → i < length s / record_bytes → n ≡ (comes_in image b (record_in s i).raw).reply.refusal →
-    next ≡ (comes_in image b (record_in s i).raw).book → m ≡ set l i n → image && not (eqb (record_refusal b (record_in s i)) 0) ≡ false →
-    (i + 1 ≤ length s / record_bytes) × (length m ≡ length l) × (replay_of image (rest_of s i) b l i ≡ replay_of image (rest_of s (i + 1)) next m (i + 1))
-unfolding replay_of
-replay_step image b next s l m i n h number posted marked on = (
-  omega arith,
-  ap length marked ∙ length-set l i n,
-  rw (rest_step s i h, on, posted, marked, number) refl,
-)
+  stop_is : stop ≡ stop_of (decision_of (arrives image b.run) b r.raw) image r.next (newest_at b r)
+  stop_is = rw (slot, decided) at stopped
 
--- the refusal that ends an image
-pub replay_stop : (image : Bool) (b : Book) (s l m : List ℕ) (i n stop : ℕ) → i < length s / record_bytes → n ≡ (comes_in image b (record_in s i).raw).reply.refusal →
-    m ≡ set l i n → image ≡ true → stop ≡ record_refusal b (record_in s i) → 0 < stop →
-    record { loaded = refused_load stop (one_more b.count); results = m } ≡ replay_of image (rest_of s i) b l i
-unfolding replay_of
-replay_stop image b s l m i n stop h number marked ends is p =
-    rw (rest_step s i h, ← is, marked, number, ends, ne_eqb stop 0 (λ z. omega arith)) refl
+  -- a record that ends nothing
+  pub replay_step : (next : Book) → stop ≡ check.Passed → next ≡ (comes_in image b r.raw).book →
+      replay_of image (rest_of s i) b l i ≡ replay_of image (rest_of s (i + 1)) next m (i + 1)
+  unfolding replay_of
+  replay_step next passed posted =
+      rw (rest_step s i h, ← is, end_passed image b r (sym stop_is ∙ passed), posted, marked, numbered) refl
+
+  -- the refusal that ends an image
+  pub replay_stop : (f : Refusal) → stop ≡ check.Refused f →
+      record { loaded = refused_load (refusal_number f) (one_more b.count); results = m } ≡ replay_of image (rest_of s i) b l i
+  unfolding replay_of
+  replay_stop f refused =
+      let end = end_refused image b r f (sym stop_is ∙ refused) in
+      rw (rest_step s i h, ← is, ← end.1, marked, numbered, end.0, ne_eqb (refusal_number f) 0 (λ z. omega (arith, refusal_above f))) refl
 
 pub replay_end : (image : Bool) (b : Book) (s l : List ℕ) (i : ℕ) → i ≡ length s / record_bytes →
     record { loaded = accepted_load b; results = l } ≡ replay_of image (rest_of s i) b l i

@@ -1,4 +1,6 @@
 // The records of an image, or a list of entries, which come in one after another: for a load and for a carry-over.
+#![tactic(auto)]
+
 ghost use Rattle.std.specs.Prelude.{◌≡◌, set};
 ghost use Rattle.entries.specs.Refusals.{refusal_number};
 ghost use Rattle.replays.specs.Loaded.{loaded_reply, refused_load};
@@ -23,6 +25,7 @@ pub struct Loaded {
 }
 
 // A refused load gives a fresh book.
+#[tactic(auto, unfolding(crate::specs::Loaded::loaded_reply))]
 pub fn refused(refusal: Refusal, record: u16) -> Loaded
     ensures { loaded_reply result ≡ refused_load (refusal_number refusal) «record» }
 {
@@ -45,6 +48,7 @@ fn arrival(image: bool, run: Run) -> Arrival
 
 // What ends an image at a record: its refusal by 1 to 16 or 24 to 26 as it is recorded, or by 20, where `newest` is its
 // account's previous entry. Nothing ends a list of entries.
+#[tactic(auto, unfolding(crate::specs::Replays::stop_of))]
 fn stop(decision: Decision, image: bool, next: u16, newest: u16) -> Check
     ensures { result ≡ stop_of decision image next newest }
 {
