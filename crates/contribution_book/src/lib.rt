@@ -24,11 +24,7 @@ pub fn contribution_book_check(image: &[u8]) -> CheckGiven
 }
 
 // Posts an entry to an image.
-pub fn contribution_book_post(
-    image: &[u8],
-    entry: &[u8],
-    output: &mut [u8],
-) -> PostingGiven
+pub fn contribution_book_post(image: &[u8], entry: &[u8], output: &mut [u8]) -> PostingGiven
     ensures { (record { given = result; output = output.new }) ≡ post_image (load_of image.now) entry.now output.old }
 {
     post_image(image, entry, output)
@@ -47,11 +43,7 @@ pub fn contribution_book_carry_over(
 }
 
 // The statement of an account of an image.
-pub fn contribution_book_statement(
-    image: &[u8],
-    account: u16,
-    allowance: u64,
-) -> StatementGiven
+pub fn contribution_book_statement(image: &[u8], account: u16, allowance: u64) -> StatementGiven
     ensures { result ≡ statement_image (load_of image.now) account allowance }
 {
     statement_image(image, account, allowance)
