@@ -1,4 +1,6 @@
 // A load: the book that an image holds, from lent bytes.
+#![tactic(auto)]
+
 ghost use Rattle.std.specs.Prelude.{◌≡◌};
 ghost use Rattle.replays.specs.Loaded.{loaded_reply};
 ghost use Rattle.loads.specs.Loads.{load_of};
