@@ -16,6 +16,7 @@ pub struct CheckGiven {
 }
 
 // Checks an image, and counts its entries.
+#[tactic(auto, unfolding(replays::specs::Loaded::loaded_reply))]
 pub fn check_image(image: &[u8]) -> CheckGiven
     ensures { result ≡ check_given (load_of image.now) }
 {

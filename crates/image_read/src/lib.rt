@@ -1,4 +1,6 @@
 // What is read off an image: its check, a statement and a contribution query.
+#![tactic(auto)]
+
 mod checks;
 mod reads;
 

@@ -59,6 +59,7 @@ fn statement_given(reply: StatementReply, record: u16) -> StatementGiven
 }
 
 // The statement of an account of an image.
+#[tactic(auto, using(entries::proofs::RefusalsLaws::is_refusal), unfolding(replays::specs::Loaded::loaded_reply, queries::specs::Statements::statement_reply_of, crate::specs::Reads::statement_image))]
 pub fn statement_image(image: &[u8], account: u16, allowance: u64) -> StatementGiven
     ensures { result ≡ statement_image (load_of image.now) account allowance }
 {
@@ -92,6 +93,7 @@ fn contribution_given(reply: ContributionReply, record: u16) -> ContributionGive
 }
 
 // What is known of a contribution of an image.
+#[tactic(auto, using(entries::proofs::RefusalsLaws::is_refusal), unfolding(replays::specs::Loaded::loaded_reply, queries::specs::Contributions::contribution_reply_of, crate::specs::Reads::contribution_image))]
 pub fn contribution_image(image: &[u8], account: u16, node: u8, serial: u32) -> ContributionGiven
     ensures { result ≡ contribution_image (load_of image.now) account node serial }
 {
