@@ -19,7 +19,7 @@ use Rattle.replays.specs.Replays.{listed_in, replay_of}
 use Rattle.replays.specs.declared.Loaded.{Loaded}
 use Rattle.replays.specs.declared.LoadAnswer.{LoadAnswer}
 use Rattle.replays.specs.declared.LoadAnswer.TheVariants.{Accepted, Refused}
-use Rattle.image_carry.specs.Carries.{read_entries, next_of, put_all, accepted_carry, refused_carry, entries_refusal, carry_refusal, carry_into, carry_image}
+use Rattle.image_carry.specs.Carries.{read_entries, next_of, put_all, accepted_carry, refused_carry, entries_refusal, carry_refusal, carry_into}
 use lib.Dec.{ltb}
 use borrow.Author.Tests.{eq-eqb, ne_eqb, lt-ltb, le-ltb}
 use Rattle.entries.specs.Refusals.{refusal_number}
@@ -27,7 +27,7 @@ use Rattle.entries.specs.declared.refusals.Refusal.{Refusal}
 use Rattle.book.proofs.Posting.{posts_count, posts_run}
 use Rattle.saves.specs.Saves.{SaveReply, refused_save, accepted_save, bytes_of, save_of, saved_in}
 use Rattle.entries.proofs.Order.{first_here, first_later, first_only}
-use Rattle.entries.proofs.RefusalsLaws.{refusal_above, is_refusal}
+use Rattle.entries.proofs.RefusalsLaws.{refusal_above}
 use Rattle.saves.proofs.Saves.{save_in_run, save_no_run, save_size}
 use Rattle.book.specs.Fresh.{entries_most}
 use Rattle.book.specs.Runs.{is_open}
@@ -142,10 +142,3 @@ module _ (b : Book) (entries results output : List ℕ) (h : length entries % re
       saved ∙ rw (q, (save_no_run (next_of b entries) output (next_run b entries false none)).0, e) refl in
       let z : refusal_number n ≡ 0 = ap (λ (x : SaveReply). x.refusal) fits in
       omega (arith, refusal_above n)
-
--- a refused image
-pub carry_image_refused : (b : Book) (n : Refusal) (i : ℕ) (entries results output : List ℕ) →
-    carry_image (record { book = b; refusal = refusal_number n; faulty = i }) entries results output ≡
-    record { given = refused_carry (refusal_number n) i; results = results; output = output }
-unfolding carry_image
-carry_image_refused b n i entries results output = rw (is_refusal n)

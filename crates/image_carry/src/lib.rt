@@ -1,4 +1,6 @@
 // A carry-over of entries into an image.
+#![tactic(auto)]
+
 ghost use Rattle.std.specs.Prelude.{◌≡◌, ◌+◌, ◌≤◌, min, ltb};
 ghost use Rattle.entries.specs.Refusals.{refusal_number};
 ghost use Rattle.book.specs.Fresh.{entries_most};
@@ -63,6 +65,7 @@ fn too_short(book: Book, entries: &[u8], length: usize) -> bool
 }
 
 // A carry-over into a book, which is then saved.
+#[tactic(auto, unfolding(saves::specs::Saves::save_reply_of))]
 fn carry_into(book: Book, entries: &[u8], results: &mut [u8], output: &mut [u8]) -> CarryGiven
     ensures { (record { given = result; results = results.new; output = output.new }) ≡ carry_into book entries.now results.old output.old }
 {
@@ -92,6 +95,7 @@ fn carry_into(book: Book, entries: &[u8], results: &mut [u8], output: &mut [u8])
 }
 
 // Carries entries over into an image.
+#[tactic(auto, unfolding(replays::specs::Loaded::loaded_reply, crate::specs::Carries::carry_image))]
 pub fn carry_image(
     image: &[u8],
     entries: &[u8],
