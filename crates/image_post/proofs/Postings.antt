@@ -14,7 +14,7 @@ use Rattle.entries.proofs.Order.{first_here, first_later, first_only}
 use Rattle.entries.proofs.RefusalsLaws.{refusal_above, is_refusal}
 use Rattle.saves.proofs.Saves.{save_size, save_left}
 use Rattle.codec.specs.Records.{record_bytes}
-use Rattle.image_post.specs.Postings.{posting_given, refused_posting, read_entry, entry_refusal, post_refusal, post_into, post_image}
+use Rattle.image_post.specs.Postings.{posting_given, refused_posting, read_entry, entry_refusal, post_refusal, post_into}
 
 pub post_17 : (b : Book) (entry output : List ℕ) → (length entry ≡ record_bytes → ⊥) →
     record { given = refused_posting 17 0; output = output } ≡ post_into b entry output
@@ -52,10 +52,3 @@ unfolding post_into
 post_unsaved b next entry output after n h e q saved left =
     let by : post_refusal b entry output ≡ refusal_number n = post_saved b entry output h e ∙ ap (λ (x : Book). (save_of x output).refusal) (sym q) ∙ ap (λ (x : SaveReply). x.refusal) (sym saved) in
     rw (by, is_refusal n, left, save_left next output (refusal_number n) (refusal_above n) saved) refl
-
--- a refused image
-pub post_image_refused : (b : Book) (n : Refusal) (i : ℕ) (entry output : List ℕ) →
-    post_image (record { book = b; refusal = refusal_number n; faulty = i }) entry output ≡
-    record { given = refused_posting (refusal_number n) i; output = output }
-unfolding post_image
-post_image_refused b n i entry output = rw (is_refusal n)

@@ -1,4 +1,6 @@
 // A posting to an image.
+#![tactic(auto)]
+
 ghost use Rattle.std.specs.Prelude.{◌≡◌};
 ghost use Rattle.entries.specs.Refusals.{refusal_number};
 ghost use Rattle.loads.specs.Loads.{load_of};
@@ -44,6 +46,7 @@ fn posting_given(reply: PostingReply, record: u16, bytes: usize) -> PostingGiven
 }
 
 // Zeros beside the refusal and the image's record at fault.
+#[tactic(auto, unfolding(rules::specs::Answers::posting_reply_of))]
 fn refused(refusal: Refusal, record: u16) -> PostingGiven
     ensures { result ≡ refused_posting (refusal_number refusal) «record» }
 {
@@ -51,6 +54,7 @@ fn refused(refusal: Refusal, record: u16) -> PostingGiven
 }
 
 // A posting to a book, which is then saved.
+#[tactic(auto, using(crate::proofs::Postings::post_17, crate::proofs::Postings::post_refused), unfolding(rules::specs::Answers::posting_reply_of, saves::specs::Saves::save_reply_of))]
 fn post_into(book: Book, entry: &[u8], output: &mut [u8]) -> PostingGiven
     ensures { (record { given = result; output = output.new }) ≡ post_into book entry.now output.old }
 {
@@ -72,6 +76,7 @@ fn post_into(book: Book, entry: &[u8], output: &mut [u8]) -> PostingGiven
 }
 
 // Posts an entry to an image.
+#[tactic(auto, using(entries::proofs::RefusalsLaws::is_refusal), unfolding(replays::specs::Loaded::loaded_reply, crate::specs::Postings::post_image))]
 pub fn post_image(image: &[u8], entry: &[u8], output: &mut [u8]) -> PostingGiven
     ensures { (record { given = result; output = output.new }) ≡ post_image (load_of image.now) entry.now output.old }
 {
