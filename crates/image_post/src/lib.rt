@@ -54,7 +54,7 @@ fn refused(refusal: Refusal, record: u16) -> PostingGiven
 }
 
 // A posting to a book, which is then saved.
-#[tactic(auto, using(crate::proofs::Postings::post_17, crate::proofs::Postings::post_refused), unfolding(rules::specs::Answers::posting_reply_of, saves::specs::Saves::save_reply_of))]
+#[tactic(auto, using(crate::proofs::Postings::post_17, crate::proofs::Postings::post_refused), unfolding(rules::specs::Answers::posting_reply_of))]
 fn post_into(book: Book, entry: &[u8], output: &mut [u8]) -> PostingGiven
     ensures { (record { given = result; output = output.new }) ≡ post_into book entry.now output.old }
 {
