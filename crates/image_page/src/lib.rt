@@ -1,4 +1,6 @@
 // The page of an account of an image.
+#![tactic(auto)]
+
 ghost use Rattle.std.specs.Prelude.{◌≡◌};
 ghost use Rattle.loads.specs.Loads.{load_of};
 ghost use Rattle.image_page.specs.Pages.{page_image};
@@ -17,6 +19,7 @@ pub struct PageGiven {
 }
 
 // Writes the page of an account of an image at the start of the output.
+#[tactic(auto, using(entries::proofs::RefusalsLaws::is_refusal), unfolding(replays::specs::Loaded::loaded_reply, pages::specs::Pages::page_exit_of, crate::specs::Pages::page_image))]
 pub fn page_image(image: &[u8], account: u16, output: &mut [u8]) -> PageGiven
     ensures { (record { given = result; output = output.new }) ≡ page_image (load_of image.now) account output.old }
 {
