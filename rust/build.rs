@@ -20,7 +20,7 @@ fn main() {
         println!("cargo::rustc-link-lib=static=contribution_book");
     } else {
         println!(
-            "cargo::error={} is not there: run `rt staticlib contribution_book` in the \
+            "cargo::error={} is not there: run `scripts/library` in the \
              repository's root, or set CONTRIBUTION_BOOK_LIB to the folder that has it",
             archive.display()
         );
