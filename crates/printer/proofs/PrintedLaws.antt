@@ -1,12 +1,12 @@
 -- Laws of the printer's text: account by account, and by the load's answer.
 use Prim.Native.Nat.{ℕ, suc, ◌+◌, ◌≤◌}
 use mathlib.Core.Path.{◌≡◌}
-use mathlib.Core.Bool.{true, false}
-use mathlib.Core.List.{List, ◌++◌, append-nil}
+use mathlib.Core.Bool.{false}
+use mathlib.Core.List.{List, ◌++◌}
 use native.Mathlib.Numerals.{add-one}
 use lib.ListN.{length, get_or}
 use lib.Dec.{eqb}
-use borrow.Author.Tests.{eq-eqb, ne_eqb}
+use borrow.Author.Tests.{ne_eqb}
 use Rattle.entries.specs.Refusals.{refusal_number}
 use Rattle.entries.specs.declared.refusals.Refusal.{Refusal}
 use Rattle.entries.proofs.RefusalsLaws.{is_refusal}
@@ -24,7 +24,7 @@ use Rattle.replays.specs.declared.Loaded.{Loaded}
 use Rattle.replays.specs.declared.LoadAnswer.TheVariants.{Accepted, Refused}
 use Rattle.printer.specs.Printed.{statement_line, account_lines, book_lines, printed_of}
 
--- the next account has entries, or none
+-- the next account has entries
 module _ (b : Book) (n a : ℕ) (e : a ≡ slot_of (n + 1)) where
   lines_more : ((get_or b.accounts a no_account).newest ≡ 0 → ⊥) →
       account_lines b (n + 1) ≡ account_lines b n ++ statement_line (n + 1) (statement_of b (n + 1) 0)
@@ -33,12 +33,6 @@ module _ (b : Book) (n a : ℕ) (e : a ≡ slot_of (n + 1)) where
       let test : eqb (account_at b (suc n)).newest 0 ≡ false = rw (e, add-one n) at (ne_eqb _ _ h) in
       rw (add-one n, test)
 
-  lines_same : (get_or b.accounts a no_account).newest ≡ 0 → account_lines b (n + 1) ≡ account_lines b n
-  unfolding account_lines
-  lines_same h =
-      let test : eqb (account_at b (suc n)).newest 0 ≡ true = rw (e, add-one n) at (eq-eqb _ _ h) in
-      rw (add-one n, test, append-nil)
-
   -- a turn of the loop
   pub turn_more : (s : StatementReply) (before text after : List ℕ) (at next : ℕ) → ((get_or b.accounts a no_account).newest ≡ 0 → ⊥) →
       s ≡ statement_of b (n + 1) 0 → at + length (statement_line (n + 1) s) ≤ length text → length after ≡ length text →
@@ -46,10 +40,6 @@ module _ (b : Book) (n a : ℕ) (e : a ≡ slot_of (n + 1)) where
       Holds (account_lines b (n + 1)) before after next
   turn_more s before text after at next h q room l k w =
       rw (lines_more h, ← q) (holds_more (account_lines b n) (statement_line (n + 1) s) before text after at next room l k w)
-
-  pub turn_same : (before text : List ℕ) (at : ℕ) → (get_or b.accounts a no_account).newest ≡ 0 →
-      Holds (account_lines b n) before text at → Holds (account_lines b (n + 1)) before text at
-  turn_same before text at h k = rw (lines_same h) k
 
 pub printed_book : (l : Loaded) → l.answer ≡ Accepted → printed_of (loaded_reply l) ≡ book_lines l.book
 unfolding printed_of loaded_reply

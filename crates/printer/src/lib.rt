@@ -1,4 +1,6 @@
 // What the statement printer writes.
+#![tactic(auto)]
+
 ghost use Rattle.std.specs.Prelude.{◌≡◌, ◌++◌, ◌≤◌, length, drop};
 ghost use Rattle.replays.specs.Loaded.{loaded_reply};
 ghost use Rattle.printer.specs.Printed.{book_lines, printed_of, room_most};
@@ -7,11 +9,13 @@ use book::{Book, slot};
 use lines::{account_line, end_line, refused_line};
 use loads::{LoadAnswer, Loaded};
 use queries::statement;
+use std::io;
 
 // The bytes that every text has room in: a line for each account, and one line more.
 pub const ROOM: usize = (Book::ACCOUNTS + 1) * lines::LONGEST_LINE;
 
 // Writes a line for each account with entries, ascending, and the end line, and gives their length.
+#[tactic(auto, using(book::proofs::Chain::slot_inside), unfolding(crate::specs::Printed::account_lines))]
 fn print_book(book: Book, text: &mut [u8]) -> usize
     requires { room_most ≤ length text.old }
     ensures { (result ≡ length (book_lines book)) × (text.new ≡ book_lines book ++ drop result text.old) }
@@ -48,8 +52,8 @@ pub fn printed(loaded: Loaded, text: &mut [u8; ROOM]) -> usize
 }
 
 // Writes what the printer writes of a load to standard output.
-pub fn print_loaded(loaded: Loaded) {
+pub fn print_loaded(rt: &impl Print, loaded: Loaded) -> io::Result<()> {
     let mut text = [0u8; ROOM];
     let n = printed(loaded, &mut text);
-    io::write_all(1, &text[..n]);
+    rt.write_all(&text[..n])
 }
