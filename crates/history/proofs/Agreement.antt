@@ -23,7 +23,6 @@ use Rattle.entries.specs.declared.data.Data.TheVariants as data'
 use Rattle.entries.specs.declared.refusals.Refusal.{Refusal}
 use Rattle.entries.specs.declared.refusals.Check.{Check}
 use Rattle.entries.specs.declared.refusals.Check.TheVariants as check
-use Rattle.entries.proofs.Ranges.{inside}
 use Rattle.rules.specs.Accounts.{no_account, with_newest_of}
 use Rattle.rules.specs.Answers.{posting_reply_of}
 use Rattle.changes.specs.Changes.{answer_of}
