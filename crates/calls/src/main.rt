@@ -1,6 +1,10 @@
 // Calls as lines of text on standard input, answers as lines on standard output.
+#![tactic(auto)]
+
 use book::Book;
 use console::{Session, answer};
+use std::io;
+use std::io::Read;
 use text::{BUFFER, LONGEST_READ, put};
 
 // What lasts from piece to piece; of the line so far the length, at most one byte more than the longest.
@@ -12,7 +16,13 @@ struct Taken {
 }
 
 // Answers the lines that end in a piece of the input.
-fn take(start: Taken, piece: &[u8], line: &mut [u8], buffer: &mut [u8]) -> Taken {
+fn take(
+    rt: &impl Print,
+    start: Taken,
+    piece: &[u8],
+    line: &mut [u8],
+    buffer: &mut [u8],
+) -> io::Result<Taken> {
     let mut books = start.books;
     let mut session = start.session;
     let mut length = start.length;
@@ -21,7 +31,7 @@ fn take(start: Taken, piece: &[u8], line: &mut [u8], buffer: &mut [u8]) -> Taken
         let byte = piece[i];
         if byte == b'\n' {
             let at = session.place();
-            let answered = answer(books[at], session, line, length, buffer);
+            let answered = answer(rt, books[at], session, line, length, buffer)?;
             let next = answered.book;
             books[at] = next;
             session = answered.session;
@@ -31,15 +41,16 @@ fn take(start: Taken, piece: &[u8], line: &mut [u8], buffer: &mut [u8]) -> Taken
         }
         i += 1;
     }
-    Taken {
+    Ok(Taken {
         books,
         session,
         length,
-    }
+    })
 }
 
-fn main() {
-    let mut piece = io::large_buffer();
+fn main(rt: HostRuntime) -> io::Result<()> {
+    let mut input = rt.stdin();
+    let mut piece = [0u8; 65536];
     let mut line = [0u8; LONGEST_READ + 1];
     let mut buffer = [0u8; BUFFER];
     let fresh = Book::fresh();
@@ -49,13 +60,14 @@ fn main() {
         length: 0,
     };
     // Nothing says that the input ends, so the turns are counted.
-    let mut turns = u64::MAX;
-    while 0 < turns {
-        let got = libc::read(0, &mut piece);
-        let n = io::count(got, &piece);
-        taken = take(taken, &piece[..n], &mut line, &mut buffer);
-        turns = if n == 0 { 0 } else { turns - 1 };
+    for _ in 0..u64::MAX {
+        let n = input.read(&mut piece)?;
+        if n == 0 {
+            break;
+        }
+        taken = take(&rt, taken, &piece[..n], &mut line, &mut buffer)?;
     }
     // The last line may have no end.
-    take(taken, b"\n", &mut line, &mut buffer);
+    take(&rt, taken, b"\n", &mut line, &mut buffer)?;
+    Ok(())
 }

@@ -1,14 +1,20 @@
 // The page printer: reads an image from standard input and writes the page of the account that its argument names, or why the image or
 // the account is refused. No contract can say what is read and written: what is proved is `account_in` of the argument read, and
 // `printed_page` of this account and the bytes read.
+#![tactic(auto)]
+
 ghost use Rattle.std.specs.Prelude.{◌≡◌};
 ghost use Rattle.statement_page.specs.Arguments.{account_in};
 
 use codec::LONGEST_IMAGE;
 use page_printer::print_page;
+use std::io;
+use std::io::Read;
+use std::rt::Env;
 use text::number;
 
 // The account that an argument names: 0, which is refused by 3, where it is no decimal number up to 65,535.
+#[tactic(auto, unfolding(crate::specs::Arguments::account_in))]
 fn account_in(word: &[u8]) -> u16
     ensures { result ≡ account_in word.now }
 {
@@ -19,13 +25,15 @@ fn account_in(word: &[u8]) -> u16
     if 65535 < n.value { 0 } else { n.value as u16 }
 }
 
-fn main() {
+fn main(rt: HostRuntime) -> io::Result<()> {
     // An argument of more bytes is taken as a missing one.
     let mut word = [0u8; 20];
-    let w = os::arg(1, &mut word);
+    let w = rt.arg(1, &mut word).unwrap_or(0);
     let account = account_in(&word[..w]);
     // One byte more than the longest image has, so that a longer one is noticed.
-    let mut image = [0u8; LONGEST_IMAGE + 1];
-    let n = io::read_full(0, &mut image);
-    print_page(&image[..n], account);
+    let mut image = Vec::new(rt.alloc());
+    rt.stdin()
+        .take(LONGEST_IMAGE as u64 + 1)
+        .read_to_end(&mut image)?;
+    print_page(&rt, &image, account)
 }

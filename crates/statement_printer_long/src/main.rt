@@ -1,11 +1,17 @@
 // The statement printer on a full image with one record more than the longest image has.
+#![tactic(auto)]
+
 use codec::LONGEST_IMAGE;
 use loads::load;
 use printer::print_loaded;
+use std::io;
+use std::io::Read;
 
-fn main() {
+fn main(rt: HostRuntime) -> io::Result<()> {
     // One byte more than the longest image has, so that a longer one is noticed.
-    let mut image = [0u8; LONGEST_IMAGE + 1];
-    let n = io::read_full(0, &mut image);
-    print_loaded(load(&image[..n]));
+    let mut image = Vec::new(rt.alloc());
+    rt.stdin()
+        .take(LONGEST_IMAGE as u64 + 1)
+        .read_to_end(&mut image)?;
+    print_loaded(&rt, load(&image))
 }
