@@ -9,9 +9,8 @@ ghost use Rattle.statement_page.specs.Arguments.{account_in};
 use codec::LONGEST_IMAGE;
 use page_printer::print_page;
 use std::io;
-use std::io::Read;
 use std::rt::Env;
-use text::number;
+use text::{number, read_full};
 
 // The account that an argument names: 0, which is refused by 3, where it is no decimal number up to 65,535.
 #[tactic(auto, unfolding(crate::specs::Arguments::account_in))]
@@ -31,9 +30,7 @@ fn main(rt: HostRuntime) -> io::Result<()> {
     let w = rt.arg(1, &mut word).unwrap_or(0);
     let account = account_in(&word[..w]);
     // One byte more than the longest image has, so that a longer one is noticed.
-    let mut image = Vec::new(rt.alloc());
-    rt.stdin()
-        .take(LONGEST_IMAGE as u64 + 1)
-        .read_to_end(&mut image)?;
-    print_page(&rt, &image, account)
+    let mut image = [0u8; LONGEST_IMAGE + 1];
+    let n = read_full(&mut rt.stdin(), &mut image)?;
+    print_page(&rt, &image[..n], account)
 }

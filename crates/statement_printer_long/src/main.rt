@@ -5,13 +5,11 @@ use codec::LONGEST_IMAGE;
 use loads::load;
 use printer::print_loaded;
 use std::io;
-use std::io::Read;
+use text::read_full;
 
 fn main(rt: HostRuntime) -> io::Result<()> {
     // One byte more than the longest image has, so that a longer one is noticed.
-    let mut image = Vec::new(rt.alloc());
-    rt.stdin()
-        .take(LONGEST_IMAGE as u64 + 1)
-        .read_to_end(&mut image)?;
-    print_loaded(&rt, load(&image))
+    let mut image = [0u8; LONGEST_IMAGE + 1];
+    let n = read_full(&mut rt.stdin(), &mut image)?;
+    print_loaded(&rt, load(&image[..n]))
 }
