@@ -19,8 +19,7 @@ fn taken(count: usize) -> usize
     if count <= AT_ONCE { count } else { AT_ONCE }
 }
 
-// Carries over the first `count` entries of an array, or all of them where `count` is above its length. It lends them to
-// `carry_over`, so that its callers have no reference to a struct.
+// Carries over the first `count` entries of an array, or all of them where `count` is above its length.
 pub fn carry_first(book: Book, entries: [Raw; AT_ONCE], count: usize, results: &mut [u8]) -> Carried
     ensures { (carried_reply result ≡ carry_of book (take (min count at_once) entries) results.old) × (results.new ≡ carry_results_of book (take (min count at_once) entries) results.old) }
 {
