@@ -1,6 +1,3 @@
-pub mod Chain
-pub mod SearchLaws
-pub mod WindowLaws
+pub mod ChainLaws
 pub mod Posting
-pub mod EnterLaws
 pub mod Figures

@@ -1,21 +1,19 @@
 -- The documents' figures P1 to P12, about the rules themselves: one table, the decision on each posting and what it should be.
 -- Each goes through the checks and the effect.
-use Rattle.std.specs.Prelude.{ℕ, ◌≡◌, cond, List, [], ◌∷◌}
+use Rattle.std.specs.Prelude.{ℕ, ◌≡◌, cond, List, [], ◌∷◌, Option, None, Some, Ok, Err}
 use Rattle.measures.specs.Cents.{cents}
 use Rattle.entries.specs.Kinds.{kind_of, names_of}
-use Rattle.entries.specs.Data.{no_entry, entry_of, with_of}
+use Rattle.entries.specs.Data.{no_entry, entry_of}
 use Rattle.entries.specs.Refusals.{refusal_number}
 use Rattle.entries.specs.declared.arrivals.Arrival.TheVariants.{Posted}
 use Rattle.entries.specs.declared.raw.Raw.{Raw}
 use Rattle.entries.specs.declared.data.Entry.{Entry}
-use Rattle.entries.specs.declared.data.Data.{Data}
 use Rattle.rules.specs.Accounts.{no_account}
 use Rattle.rules.specs.declared.accounts.Account.{Account}
-use Rattle.changes.specs.declared.Found.{Found}
-use Rattle.changes.specs.declared.Found.TheVariants.{At, Nothing}
-use Rattle.changes.specs.declared.Decision.{Decision}
-use Rattle.changes.specs.declared.Decision.TheVariants.{Refused, Accepted}
-use Rattle.book.specs.Chain.{missing, found}
+use Rattle.changes.specs.Changes.{Decision}
+use Rattle.changes.specs.declared.Link.{Link}
+use Rattle.book.specs.Chain.{link_of}
+use Rattle.book.specs.declared.Found.TheVariants.{At, Nothing}
 use Rattle.book.specs.Refusals.{decision_by}
 
 -- an entry of node 1 and account 1: serial, kind, day, amount, a, b. Where its kind names an entry, it names the one of serial 1.
@@ -42,23 +40,23 @@ pub record State : Type 0 where
 
 -- after the first entry; nothing where it is refused
 abbrev begun : Raw → Decision → State
-begun r (Refused n) = record { account = no_account; first = no_entry }
-begun r (Accepted c) = record { account = c.account; first = entry_of r 0 c.«data» }
+begun r (Err n) = record { account = no_account; first = no_entry }
+begun r (Ok c) = record { account = c.account; first = entry_of r 0 c.«data» }
 
 abbrev begins : ℕ → ℕ → ℕ → ℕ → ℕ → State
-begins kind day amount a b = let r = raw 1 kind day amount a b in begun r (decision_by r Posted 0 0 no_account missing (cents 0))
+begins kind day amount a b = let r = raw 1 kind day amount a b in begun r (decision_by r Posted 0 0 no_account Nothing (cents 0))
 
 -- an entry after it: each is posted as the second of a book whose node's last serial is 1
 abbrev post : State → ℕ → ℕ → ℕ → ℕ → ℕ → Decision
-post s kind day amount a b = decision_by (raw 2 kind day amount a b) Posted 1 1 s.account (found 0 s.first) (cents 0)
+post s kind day amount a b = decision_by (raw 2 kind day amount a b) Posted 1 1 s.account (At (link_of 0 s.first)) (cents 0)
 
-abbrev rewritten : Entry → Found → Data → Entry
-rewritten e Nothing d = e
-rewritten e (At i) d = with_of e d
+abbrev rewritten : Entry → Option Link → Entry
+rewritten e None = e
+rewritten e (Some l) = l.entry
 
 abbrev after : State → Decision → State
-after s (Refused n) = s
-after s (Accepted c) = record { account = c.account; first = rewritten s.first c.named_at c.named_data }
+after s (Err n) = s
+after s (Ok c) = record { account = c.account; first = rewritten s.first c.named }
 
 -- what a decision shows: the refusal, or settled, paid out, retained and interest, and the account's arrears and credit then
 pub data Shown : Type 0 where
@@ -66,8 +64,8 @@ pub data Shown : Type 0 where
   posted : ℕ → ℕ → ℕ → ℕ → ℕ → ℕ → Shown
 
 abbrev shown : Decision → Shown
-shown (Refused n) = refused (refusal_number n)
-shown (Accepted c) =
+shown (Err n) = refused (refusal_number n)
+shown (Ok c) =
     posted c.amounts.settled.0 c.amounts.paid_out.0 c.amounts.retained.0 c.amounts.interest.0 c.account.arrears.0
     c.account.credit.0
 

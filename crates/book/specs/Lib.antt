@@ -2,8 +2,6 @@ pub mod Runs
 pub mod Fresh
 pub mod Serials
 pub mod Chain
-pub mod Search
-pub mod Window
 pub mod Refusals
 pub mod Posting
 pub mod Figures

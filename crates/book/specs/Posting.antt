@@ -1,46 +1,43 @@
 -- An entry that comes in, a posted one among them: the next book, and the answer in the documents' numbers.
-use Rattle.std.specs.Prelude.{ℕ, ◌+◌, cond, List, [], ◌∷◌, get_or, set}
+use Rattle.std.specs.Prelude.{ℕ, ◌+◌, cond, List, [], ◌∷◌, get_or, set, Option, None, Some, Ok, Err}
 use Rattle.measures.specs.Cents.{cents}
 use Rattle.measures.specs.declared.Cents.{Cents}
 use Rattle.entries.specs.Kinds.{kind_of, same_of}
-use Rattle.entries.specs.Data.{no_entry, entry_of, with_of, points_at}
+use Rattle.entries.specs.Data.{entry_of, points_at}
 use Rattle.entries.specs.declared.arrivals.Arrival.{Arrival}
 use Rattle.entries.specs.declared.arrivals.Arrival.TheVariants.{Recorded}
 use Rattle.entries.specs.declared.raw.Raw.{Raw}
 use Rattle.entries.specs.declared.kinds.Kind.TheVariants as kind
 use Rattle.entries.specs.declared.data.Entry.{Entry}
-use Rattle.entries.specs.declared.data.Data.{Data}
 use Rattle.rules.specs.Accounts.{no_account, with_newest_of}
-use Rattle.rules.specs.Answers.{posting_reply_of}
-use Rattle.changes.specs.Changes.{answer_of}
+use Rattle.rules.specs.Answers.{PostingAnswer, posting_reply_of}
+use Rattle.changes.specs.Changes.{Decision}
 use Rattle.rules.specs.declared.accounts.Account.{Account}
 use Rattle.rules.specs.declared.answers.PostingReply.{PostingReply}
-use Rattle.changes.specs.declared.Found.{Found}
-use Rattle.changes.specs.declared.Found.TheVariants.{At, Nothing}
+use Rattle.changes.specs.declared.Link.{Link}
 use Rattle.changes.specs.declared.Change.{Change}
-use Rattle.changes.specs.declared.Decision.{Decision}
-use Rattle.changes.specs.declared.Decision.TheVariants.{Refused, Accepted}
 use Rattle.book.specs.Fresh.{entries_most}
 use Rattle.book.specs.Runs.{arrival_of}
 use Rattle.book.specs.Serials.{last_of, after_of}
-use Rattle.book.specs.Chain.{slot_of, start_of, walk_of, Sought, sought_in, paid_over}
+use Rattle.book.specs.Chain.{slot_of, start_of, walk_of, sought_in, paid_over}
 use Rattle.book.specs.Refusals.{decision_by}
 use Rattle.book.specs.declared.Book.{Book}
-use Rattle.book.specs.declared.Posted.{Posted}
+use Rattle.book.specs.declared.Found.{Found}
+use Rattle.book.specs.declared.Next.{Next}
 
 -- what it gives
 pub record PostedReply : Type 0 where
   pub book : Book
   pub reply : PostingReply
 
-abbrev pub posted_reply : Posted → PostedReply
+abbrev pub posted_reply : Next PostingAnswer → PostedReply
 posted_reply p = record { book = p.book; reply = posting_reply_of p.answer }
 
 abbrev pub account_at : Book → ℕ → Account
 account_at b account = get_or b.accounts (slot_of account) no_account
 
 -- the entry that r names, and its place
-unfoldable pub lookup_of : Book → Raw → Sought
+unfoldable pub lookup_of : Book → Raw → Found
 lookup_of b r =
     sought_in (points_at r) (walk_of b.entries entries_most (start_of (kind_of r.kind) (account_at b r.account).newest))
 
@@ -51,10 +48,10 @@ paid_of b r =
     (paid_over r.day (cents 0) (walk_of b.entries entries_most (account_at b r.account).newest))
     (cents 0)
 
--- `next`, with the entry at a place given the data d; the entries were es before
-abbrev pub entries_rewritten : List Entry → Found → Data → List Entry → List Entry
-entries_rewritten es Nothing d next = next
-entries_rewritten es (At i) d next = set next i (with_of (get_or es i no_entry) d)
+-- with the named entry as it is afterwards
+abbrev pub entries_rewritten : Option Link → List Entry → List Entry
+entries_rewritten None es = es
+entries_rewritten (Some l) es = set es l.place l.entry
 
 -- The next entry gets the next number; its next index is the number of the account's previous entry;
 -- its serial becomes its node's last; the entry that it names is rewritten.
@@ -63,8 +60,7 @@ stored_of b r c =
     record {
       accounts = set b.accounts (slot_of r.account) (with_newest_of c.account (b.count + 1));
       entries =
-          entries_rewritten b.entries c.named_at c.named_data
-          (set b.entries b.count (entry_of r (account_at b r.account).newest c.«data»));
+          entries_rewritten c.named (set b.entries b.count (entry_of r (account_at b r.account).newest c.«data»));
       count = b.count + 1;
       last = after_of b.last r;
       run = b.run;
@@ -73,13 +69,18 @@ stored_of b r c =
 
 -- a refused entry leaves the book as it was
 unfoldable pub decided_book : Book → Raw → Decision → Book
-decided_book b r (Refused n) = b
-decided_book b r (Accepted c) = stored_of b r c
+decided_book b r (Err n) = b
+decided_book b r (Ok c) = stored_of b r c
 
 -- the refusal of r, which comes in by w, or what it does
 unfoldable pub decision_of : Arrival → Book → Raw → Decision
 decision_of w b r =
     decision_by r w b.count (last_of b.last r.node) (account_at b r.account) (lookup_of b r) (paid_of b r)
+
+-- an accepted answer carries the entry's number and the four amounts
+unfoldable pub answer_of : Decision → ℕ → PostingAnswer
+answer_of (Err n) number = Err n
+answer_of (Ok c) number = Ok (record { number = number; amounts = c.amounts })
 
 -- r comes in by w
 unfoldable pub enter_of : Arrival → Book → Raw → PostedReply

@@ -1,22 +1,25 @@
 // The contribution book.
 #![tactic(auto)]
 
-ghost use Rattle.std.specs.Prelude.{◌≡◌, ◌-◌};
-ghost use Rattle.entries.specs.Kinds.{kind_of};
-ghost use Rattle.entries.specs.Data.{points_at};
-ghost use Rattle.book.specs.Fresh.{fresh_book};
+ghost use Rattle.std.specs.Prelude.{◌≡◌, ◌<◌, not, IfSome};
+ghost use Rattle.std.specs.Iterator.{YieldsFirst, item_count};
+ghost use Rattle.measures.specs.Cents.{cents};
+ghost use Rattle.entries.specs.Ranges.{between};
+ghost use Rattle.entries.specs.Refusals.{refuse_if, check_rows};
+ghost use Rattle.entries.specs.declared.refusals.Refusal.TheVariants as no;
+ghost use Rattle.entries.specs.Data.{carries, points_at};
+ghost use Rattle.rules.specs.Answers.{posting_reply_of};
+ghost use Rattle.book.specs.Fresh.{fresh_book, accounts_most, entries_most};
 ghost use Rattle.book.specs.Runs.{no_run, is_open, arrival_of};
 ghost use Rattle.book.specs.Serials.{last_of, after_of};
-ghost use Rattle.book.specs.Chain.{slot_of, ends_of, place_of, start_of, walks_of};
-ghost use Rattle.book.specs.Search.{search_of, goes_on_of, past_of, found_of, sought_at};
-ghost use Rattle.book.specs.Window.{window_start, window_of, onward_of};
-ghost use Rattle.book.specs.Refusals.{check_entry_of, decision_by};
-ghost use Rattle.book.specs.Posting.{posted_reply, enter_of, post_of};
+ghost use Rattle.book.specs.Chain.{slot_of, ends_of, links_of, walk_of, found_by, sought_in, paid_over};
+ghost use Rattle.book.specs.Refusals.{late_rows, check_entry_of};
+ghost use Rattle.book.specs.Posting.{account_at, decision_of, stored_of, posted_reply, enter_of, post_of};
 
-use changes::{Decision, Found, naming_decision, own_decision};
-use entries::{Arrival, Check, Entry, Kind, Raw, Refusal, both, one_more, within};
+use changes::{Change, Decision, Link, naming_decision, own_decision};
+use entries::{Arrival, Entry, Kind, Name, Raw, Refusal, refuse_if, within};
 use measures::{Cents, Day};
-use rules::{Account, PostingAnswer, paid_within};
+use rules::{Accepted, Account, PostingAnswer, paid_within};
 
 // The last serial of each node, 0 where it has none.
 #[derive(Clone, Copy)]
@@ -25,7 +28,7 @@ pub struct Serials {
     pub node_2: u32,
 }
 
-// The late-charge run that is open; all zero where none is.
+// The late-charge run that is open; all zero where none is. `next` alone says whether one is, so an Option would say it twice.
 #[derive(Clone, Copy)]
 pub struct Run {
     pub node: u8,
@@ -45,37 +48,34 @@ pub struct Book {
     // Every account's arrears at the run's opening; all zero where no run is open.
     pub noted: [Cents; Book::ACCOUNTS],
     pub entries: [Entry; Book::ENTRIES],
-    // How many entries there are: they stand at the places before this one.
+    // How many entries there are: they stand at the places before this one. Document 01 has the book's entry array.
     pub count: u16,
-}
-
-// A search along an account's chain.
-#[derive(Clone, Copy)]
-pub struct Search {
-    // The number of the entry that it stands at.
-    pub at: u16,
-    // How many links are left.
-    pub left: u16,
-    pub found: bool,
-}
-
-// A walk along an account's chain that adds up the payments in a reduction's window.
-#[derive(Clone, Copy)]
-pub struct Window {
-    // The number of the entry that it stands at.
-    pub at: u16,
-    // How many links are left.
-    pub left: u16,
-    // The reduction's day.
-    pub day: u16,
-    pub paid: Cents,
 }
 
 // The next book beside the answer.
 #[derive(Clone, Copy)]
-pub struct Posted {
+pub struct Next<A> {
     pub book: Book,
-    pub answer: PostingAnswer,
+    pub answer: A,
+}
+
+pub type Posted = Next<PostingAnswer>;
+
+// What a search along a chain gives: the cases are those that document 01 names, so it is no Option.
+#[derive(Clone, Copy)]
+pub enum Found {
+    At(Link),
+    Nothing,
+}
+
+// The entries of an account's chain, newest first.
+#[derive(Clone, Copy)]
+pub struct Chain<'a> {
+    entries: &'a [Entry; Book::ENTRIES],
+    // The number of the next entry.
+    at: u16,
+    // How many links are left at most.
+    left: u16,
 }
 
 impl Serials {
@@ -94,12 +94,12 @@ impl Serials {
         if raw.node == 1 {
             Serials {
                 node_1: raw.serial,
-                node_2: self.node_2,
+                ..self
             }
         } else {
             Serials {
-                node_1: self.node_1,
                 node_2: raw.serial,
+                ..self
             }
         }
     }
@@ -141,7 +141,7 @@ impl Run {
 pub fn slot(account: u16) -> usize
     ensures { result ≡ slot_of account }
 {
-    let a = account as usize;
+    let a = usize::from(account);
     if a == 0 {
         return 0;
     }
@@ -150,214 +150,70 @@ pub fn slot(account: u16) -> usize
 
 // Whether a chain ends at a link.
 #[tactic(auto, unfolding(crate::specs::Chain::ends_of))]
-pub fn ends(at: u16) -> bool
+fn ends(at: u16) -> bool
     ensures { result ≡ ends_of at }
 {
-    if at == 0 {
-        return true;
-    }
-    Book::ENTRIES < at as usize
+    at == 0 || Book::ENTRIES < usize::from(at)
 }
 
-// Where a search begins: at 0, the end of every chain, where the kind names nothing.
-#[tactic(auto, unfolding(crate::specs::Chain::start_of))]
-fn start(kind: Kind, newest: u16) -> u16
-    ensures { result ≡ start_of kind newest }
+impl Iterator for Chain<'_> {
+    type Item = Link;
+
+    ghost next_gives = { YieldsFirst links_of };
+
+    ghost remaining = { item_count links_of };
+
+    #[tactic(auto, using(crate::proofs::ChainLaws::link_inside, crate::proofs::ChainLaws::place_link, crate::proofs::ChainLaws::walk_none, crate::proofs::ChainLaws::walk_ends, crate::proofs::ChainLaws::walk_link))]
+    fn next(&mut self) -> Option<Link> {
+        if self.left == 0 || ends(self.at) {
+            return None;
+        }
+        let place = usize::from(self.at) - 1;
+        let entry = self.entries[place];
+        self.at = entry.next;
+        self.left -= 1;
+        Some(Link { place, entry })
+    }
+}
+
+// 2: the node is not 1 or 2.
+pub fn check_node(node: u8) -> Result<(), Refusal>
+    ensures { result ≡ refuse_if (not (between node 1 2)) no.UnknownNode }
 {
-    if kind.names() { newest } else { 0 }
+    refuse_if(!within(u32::from(node), 1, 2), Refusal::UnknownNode)
 }
 
-fn less_one(n: u16) -> u16
-    ensures { result ≡ n - 1 }
+// 3: the account is none of the book's.
+pub fn check_account(account: u16) -> Result<(), Refusal>
+    ensures { result ≡ refuse_if (not (between account 1 accounts_most)) no.UnknownAccount }
 {
-    if n == 0 { 0 } else { n - 1 }
+    let known = within(u32::from(account), 1, Book::ACCOUNTS as u32);
+    refuse_if(!known, Refusal::UnknownAccount)
 }
 
-// The place of the entry of a number, and 0 at the end of a chain.
-#[tactic(auto, unfolding(crate::specs::Chain::place_of))]
-fn place(at: u16) -> usize
-    ensures { result ≡ place_of at }
+// The rules after 5: 30, 6, 27 and 7.
+#[tactic(auto, unfolding(entries::specs::Refusals::refuse_if))]
+fn check_late(raw: Raw, kind: Kind, arrival: Arrival, count: u16, last: u32) -> Result<(), Refusal>
+    ensures { result ≡ check_rows (late_rows raw kind arrival count last) }
 {
-    if ends(at) {
-        return 0;
-    }
-    at as usize - 1
-}
-
-// A walk goes on while links are left and the chain does not end.
-#[tactic(auto, unfolding(crate::specs::Chain::walks_of))]
-fn walks(at: u16, left: u16) -> bool
-    ensures { result ≡ walks_of at left }
-{
-    both(0 < left, !ends(at))
-}
-
-impl Search {
-    // From the entry of a number.
-    pub fn along(at: u16) -> Search
-        ensures { result ≡ search_of at }
-    {
-        Search {
-            at,
-            left: Book::ENTRIES as u16,
-            found: false,
-        }
-    }
-
-    // For the entry that another names, on an account whose newest entry has this number.
-    pub fn of(raw: Raw, newest: u16) -> Search
-        ensures { result ≡ search_of (start_of (kind_of raw.kind) newest) }
-    {
-        Search::along(start(Kind::of(raw.kind), newest))
-    }
-
-    #[tactic(auto, unfolding(crate::specs::Search::goes_on_of))]
-    pub fn goes_on(self) -> bool
-        ensures { result ≡ goes_on_of self }
-    {
-        both(!self.found, walks(self.at, self.left))
-    }
-
-    // The place of the entry that it stands at, and 0 at the end of the chain.
-    pub fn place(self) -> usize
-        ensures { result ≡ place_of self.at }
-    {
-        place(self.at)
-    }
-
-    // After a look at the entry that it stands at: whether that is the one, and its next index.
-    #[tactic(auto, unfolding(crate::specs::Search::past_of))]
-    pub fn look(self, hit: bool, next: u16) -> Search
-        ensures { result ≡ past_of self hit next }
-    {
-        let left = less_one(self.left);
-        if hit {
-            return Search {
-                at: self.at,
-                left,
-                found: true,
-            };
-        }
-        Search {
-            at: next,
-            left,
-            found: false,
-        }
-    }
-
-    // After a look for the entry that another names.
-    pub fn past(self, raw: Raw, entry: Entry) -> Search
-        ensures { result ≡ past_of self (points_at raw entry) entry.next }
-    {
-        self.look(raw.points_at(entry), entry.next)
-    }
-
-    #[tactic(auto, unfolding(crate::specs::Search::found_of))]
-    fn lookup(self) -> Found
-        ensures { result ≡ found_of self }
-    {
-        if self.found {
-            return Found::At(self.place());
-        }
-        Found::Nothing
-    }
-}
-
-// Where a window's walk begins: at 0, the end of every chain, where the kind is no reduction.
-#[tactic(auto, unfolding(crate::specs::Window::window_start))]
-fn window_start(kind: Kind, newest: u16) -> u16
-    ensures { result ≡ window_start kind newest }
-{
-    if kind.is(Kind::Reduction) { newest } else { 0 }
-}
-
-impl Window {
-    // Of an entry, on an account whose newest entry has this number.
-    pub fn of(raw: Raw, newest: u16) -> Window
-        ensures { result ≡ window_of raw newest }
-    {
-        Window {
-            at: window_start(Kind::of(raw.kind), newest),
-            left: Book::ENTRIES as u16,
-            day: raw.day,
-            paid: Cents(0),
-        }
-    }
-
-    pub fn goes_on(self) -> bool
-        ensures { result ≡ walks_of self.at self.left }
-    {
-        walks(self.at, self.left)
-    }
-
-    // The place of the entry that it stands at.
-    pub fn place(self) -> usize
-        ensures { result ≡ place_of self.at }
-    {
-        place(self.at)
-    }
-
-    // After a look at the entry that it stands at.
-    #[tactic(auto, unfolding(crate::specs::Window::onward_of))]
-    pub fn past(self, entry: Entry) -> Window
-        ensures { result ≡ onward_of self entry }
-    {
-        Window {
-            at: entry.next,
-            left: less_one(self.left),
-            day: self.day,
-            paid: self.paid.plus(paid_within(entry, self.day)),
-        }
-    }
+    let full = Book::ENTRIES <= usize::from(count);
+    refuse_if(arrival.no_day(kind, raw.b), Refusal::NoDaysServed)?;
+    refuse_if(raw.serial <= last, Refusal::SerialNotNew)?;
+    refuse_if(arrival.waits(kind), Refusal::CorrectionInRun)?;
+    refuse_if(full, Refusal::BookFull)
 }
 
 // 1 to 7, 30 after 5 and 27 before 7: the refusals that the entry, how it comes in, its node's last serial and the number of entries decide.
-#[tactic(auto, unfolding(crate::specs::Refusals::check_entry_of))]
-fn check_entry(raw: Raw, kind: Kind, arrival: Arrival, count: u16, last: u32) -> Check
+#[tactic(auto, unfolding(crate::specs::Refusals::check_entry_of, entries::specs::Refusals::refuse_if))]
+fn check_entry(raw: Raw, kind: Kind, arrival: Arrival, count: u16, last: u32) -> Result<(), Refusal>
     ensures { result ≡ check_entry_of raw kind arrival count last }
 {
-    Check::Passed
-        .refuse_if(arrival.unknown(kind), Refusal::UnknownKind)
-        .refuse_if(!within(raw.node as u32, 1, 2), Refusal::UnknownNode)
-        .refuse_if(
-            !within(raw.account as u32, 1, Book::ACCOUNTS as u32),
-            Refusal::UnknownAccount,
-        )
-        .refuse_if(Day::LAST < raw.day, Refusal::UnknownDay)
-        .refuse_if(!raw.in_range(kind), Refusal::FieldOutOfRange)
-        .refuse_if(arrival.no_day(kind, raw.b), Refusal::NoDaysServed)
-        .refuse_if(raw.serial <= last, Refusal::SerialNotNew)
-        .refuse_if(arrival.waits(kind), Refusal::CorrectionInRun)
-        .refuse_if(Book::ENTRIES <= count as usize, Refusal::BookFull)
-}
-
-// The refusal of an entry, or what it does, after the search for the entry that it names. `entry` is the one that the search stands at,
-// `paid` is the sum of the payments in a reduction's window.
-#[tactic(auto, unfolding(crate::specs::Refusals::decision_by, crate::specs::Refusals::searched_of, entries::specs::Refusals::decided_of))]
-pub fn decision(
-    raw: Raw,
-    arrival: Arrival,
-    count: u16,
-    last: Serials,
-    account: Account,
-    search: Search,
-    entry: Entry,
-    paid: Cents,
-) -> Decision
-    ensures { result ≡ decision_by raw arrival count (last_of last raw.node) account (sought_at (found_of search) entry) paid }
-{
-    let kind = Kind::of(raw.kind);
-    if let Check::Refused(refusal) = check_entry(raw, kind, arrival, count, last.of(raw.node)) {
-        return Decision::Refused(refusal);
-    }
-    if !kind.names() {
-        return own_decision(raw, kind, account);
-    }
-    let lookup = search.lookup();
-    let Found::At(i) = lookup else {
-        return Decision::Refused(Refusal::NotOnChain);
-    };
-    naming_decision(raw, kind, account, paid, i, entry)
+    refuse_if(arrival.unknown(kind), Refusal::UnknownKind)?;
+    check_node(raw.node)?;
+    check_account(raw.account)?;
+    refuse_if(Day::LAST < raw.day, Refusal::UnknownDay)?;
+    refuse_if(!raw.in_range(kind), Refusal::FieldOutOfRange)?;
+    check_late(raw, kind, arrival, count, last)
 }
 
 impl Book {
@@ -386,60 +242,120 @@ impl Book {
         }
     }
 
-    // Posts an entry, during a run where one is open.
-    #[tactic(auto, unfolding(crate::specs::Posting::post_of))]
-    pub fn post(self, raw: Raw) -> Posted
-        ensures { posted_reply result ≡ post_of self raw }
+    // An account, the first where there is none of that number.
+    #[tactic(auto, using(crate::proofs::ChainLaws::slot_inside))]
+    pub fn account(&self, account: u16) -> Account
+        ensures { result ≡ account_at self.now account }
     {
-        let run = self.run;
-        self.enter(raw, run.arrival())
+        self.accounts[slot(account)]
     }
 
-    // An entry comes in.
-    #[tactic(auto, unfolding(crate::specs::Window::onward_of, changes::specs::Changes::answer_of))]
-    pub fn enter(mut self, raw: Raw, arrival: Arrival) -> Posted
-        ensures { posted_reply result ≡ enter_of arrival self raw }
+    // The chain that begins at the entry of a number.
+    pub fn chain(&self, newest: u16) -> Chain<'_>
+        ensures { links_of result ≡ walk_of self.now.entries entries_most newest }
     {
-        let count = self.count;
-        let last = self.last;
+        Chain {
+            entries: &self.entries,
+            at: newest,
+            left: Book::ENTRIES as u16,
+        }
+    }
+
+    // The first entry of a chain that is the one of a name.
+    pub fn search(&self, newest: u16, name: Name) -> Option<Link>
+        ensures { found_by result ≡ sought_in (carries name) (walk_of self.now.entries entries_most newest) }
+    {
+        self.chain(newest).find(|link| link.entry.carries(name))
+    }
+
+    // The payments of a chain that a reduction of a day counts.
+    #[tactic(auto, unfolding(crate::specs::Chain::paid_over))]
+    fn paid(&self, newest: u16, day: u16) -> Cents
+        ensures { result ≡ paid_over «day» (cents 0) (walk_of self.now.entries entries_most newest) }
+    {
+        let mut paid = Cents(0);
+        for link in self.chain(newest) {
+            paid = paid.plus(paid_within(link.entry, day));
+        }
+        paid
+    }
+
+    // The entry that another names, on an account whose newest entry has a number.
+    fn lookup(&self, raw: Raw, newest: u16) -> Found
+        ensures { result ≡ sought_in (points_at raw) (walk_of self.now.entries entries_most newest) }
+    {
+        match self.search(newest, raw.named()) {
+            Some(link) => Found::At(link),
+            None => Found::Nothing,
+        }
+    }
+
+    // The refusal of an entry that comes in, or what it does.
+    #[tactic(auto, unfolding(crate::specs::Posting::decision_of, crate::specs::Posting::lookup_of, crate::specs::Posting::paid_of, crate::specs::Chain::start_of, crate::specs::Refusals::decision_by, crate::specs::Refusals::searched_of, entries::specs::Refusals::decided_of))]
+    fn decision(&self, raw: Raw, arrival: Arrival) -> Decision
+        ensures { result ≡ decision_of arrival self.now raw }
+    {
+        let kind = Kind::from(raw.kind);
+        let account = self.account(raw.account);
+        check_entry(raw, kind, arrival, self.count, self.last.of(raw.node))?;
+        if !kind.names() {
+            return own_decision(raw, kind, account);
+        }
+        let Found::At(link) = self.lookup(raw, account.newest) else {
+            return Err(Refusal::NotOnChain);
+        };
+        let paid = if kind == Kind::Reduction {
+            self.paid(account.newest, raw.day)
+        } else {
+            Cents(0)
+        };
+        naming_decision(raw, kind, account, paid, link)
+    }
+
+    // Stores an accepted entry.
+    #[tactic(auto, using(crate::proofs::ChainLaws::slot_inside), unfolding(crate::specs::Posting::stored_of))]
+    fn store(&mut self, raw: Raw, change: Change)
+        requires { (self.old.count < entries_most) × IfSome change.named (λ l. l.place < entries_most) }
+        ensures { self.new ≡ stored_of self.old raw change }
+    {
         let a = slot(raw.account);
-        let account = self.accounts[a];
-        let mut search = Search::of(raw, account.newest);
-        while search.goes_on() {
-            let i = search.place();
-            let entry = self.entries[i];
-            search = search.past(raw, entry);
+        let newest = self.accounts[a].newest;
+        self.entries[usize::from(self.count)] = raw.entry(newest, change.data);
+        if let Some(link) = change.named {
+            self.entries[link.place] = link.entry;
         }
-        let place = search.place();
-        let entry = self.entries[place];
-        let mut window = Window::of(raw, account.newest);
-        while window.goes_on() {
-            let i = window.place();
-            let passed = self.entries[i];
-            window = window.past(passed);
-        }
-        let decision = decision(
-            raw,
-            arrival,
-            count,
-            last,
-            account,
-            search,
-            entry,
-            window.paid,
-        );
-        let number = one_more(count);
-        let answer = decision.answer(number);
-        if let Decision::Accepted(change) = decision {
-            let named_at = change.named_at;
-            self.entries[count as usize] = change.entry(raw, account.newest);
-            self.accounts[a] = change.account.with_newest(number);
-            self.count = number;
-            self.last = last.after(raw);
-            if let Found::At(i) = named_at {
-                self.entries[i] = change.rewritten(entry);
-            }
-        }
-        Posted { book: self, answer }
+        self.count += 1;
+        self.accounts[a] = change.account.with_newest(self.count);
+        self.last = self.last.after(raw);
+    }
+
+    // An entry comes in, in place.
+    #[tactic(auto, using(crate::proofs::Posting::room, crate::proofs::Posting::named_inside, crate::proofs::Posting::enter_refused, crate::proofs::Posting::enter_accepted), unfolding(crate::specs::Posting::stored_of))]
+    pub fn admit(&mut self, raw: Raw, arrival: Arrival) -> PostingAnswer
+        ensures { (record { book = self.new; reply = posting_reply_of result }) ≡ enter_of arrival self.old raw }
+    {
+        let change = self.decision(raw, arrival)?;
+        self.store(raw, change);
+        Ok(Accepted {
+            number: self.count,
+            amounts: change.amounts,
+        })
+    }
+
+    // Posts an entry in place, during a run where one is open.
+    #[tactic(auto, unfolding(crate::specs::Posting::post_of))]
+    pub fn offer(&mut self, raw: Raw) -> PostingAnswer
+        ensures { (record { book = self.new; reply = posting_reply_of result }) ≡ post_of self.old raw }
+    {
+        let arrival = self.run.arrival();
+        self.admit(raw, arrival)
+    }
+
+    // Posts an entry.
+    pub fn post(mut self, raw: Raw) -> Posted
+        ensures { posted_reply result ≡ post_of self raw }
+    {
+        let answer = self.offer(raw);
+        Next { book: self, answer }
     }
 }

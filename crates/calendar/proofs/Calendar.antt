@@ -3,18 +3,18 @@ use Prim.Native.Nat.{ℕ, suc, ◌+◌, ◌-◌, ◌%◌, ◌<◌, ◌≤◌}
 use mathlib.Core.Path.{◌≡◌, refl, ap, sym, ◌∙◌}
 use mathlib.Core.Bool.{Bool, true, false, cond, and-eq-true_iff}
 use lib.Dec.{eqb, leb, ltb}
-use borrow.Author.Tests.{eqb-true, ltb-true, ltb-false, lt-leb}
+use borrow.Author.Tests.{eqb-true, ltb-true, ltb-false}
 use native.Mathlib.Nat.{add_assoc}
 use native.Mathlib.Numerals.{add-one}
 use native.Mathlib.Omega.{arith}
 use Rattle.measures.specs.Days.{last_day}
 use Rattle.calendar.specs.Years.{leap, days_of_year, months, days_of_month, start, span_from, first_day, year_of, month_start}
-use Rattle.calendar.specs.Dates.{date, no_date, date_in, date_of, real, day_of, next_of}
+use Rattle.calendar.specs.Dates.{date, date_in, date_of, real, day_of, next_of}
 use Rattle.calendar.specs.Periods.{leap_day, same_date, years_on}
 use Rattle.calendar.specs.Calendar.{Calendar}
 use Rattle.calendar.proofs.Spans.{start_zero, start_next}
 use Rattle.calendar.proofs.Years.{month_range, twelve_months, next_year, first_day_lem, year_after}
-use Rattle.calendar.proofs.Dates.{At, day_at, date_at, by_last, real_parts, real_day, uncounted, real_at, day_at_lem, year_at, date_at_lem, somewhere, date_is, at_date, date_there, day_is}
+use Rattle.calendar.proofs.Dates.{At, day_at, date_at, by_last, real_parts, real_day, uncounted, undated, real_at, day_at_lem, year_at, date_at_lem, somewhere, date_is, at_date, date_there, day_is}
 use Rattle.calendar.proofs.Periods.{end_date, on_year, past_end, after_last, reached}
 
 -- the date of the next day: in the same month, on the first of the next, or on 1 January
@@ -88,10 +88,6 @@ module _ (n d : ℕ) (h : d ≤ last_day) (l : (date_of d).year + n ≤ 2099) wh
   leap_to_common : leap_day (date_of d) ≡ true → leap ((date_of d).year + n) ≡ false → date_of (years_on n d) ≡ date ((date_of d).year + n) 3 1
   unfolding same_date
   leap_to_common e f = ended ∙ rw (e, f) refl
-
-undated : (d : ℕ) → last_day < d → date_of d ≡ no_date
-unfolding date_of
-undated d h = rw (lt-leb d last_day h) refl
 
 pub calendar : Calendar
 unfolding years_on same_date day_of date_of date_in real start span_from days_of_year days_of_month months leap

@@ -1,16 +1,17 @@
 -- A real date as a year, a month and a day counted from 0, and the day that it is.
 use Prim.Native.Nat.{ℕ, suc, ◌+◌, ◌-◌, ◌<◌, ◌≤◌}
 use mathlib.Core.Path.{◌≡◌, refl, ap, sym, ◌∙◌}
-use mathlib.Core.Bool.{Bool, true, false, and-eq-true_iff}
+use mathlib.Core.Bool.{Bool, true, false}
 use lib.Dec.{leb}
-use borrow.Author.Tests.{leb-true, le-leb}
+use borrow.Author.Tests.{le-leb, lt-leb}
 use native.Mathlib.Omega.{arith}
+use Rattle.std.proofs.lemmas.Bool.Decides.{nat_tests}
 use Rattle.measures.specs.Days.{last_day}
 use Rattle.calendar.specs.Years.{leap, days_of_year, days_of_month, first_day, year_of, month_start, month_of}
-use Rattle.calendar.specs.Dates.{date, date_in, date_of, month_days, real, never, day_of}
+use Rattle.calendar.specs.Dates.{date, no_date, date_in, date_of, month_days, real, never, day_of}
 use Rattle.calendar.specs.declared.Date.{Date}
 use Rattle.calendar.proofs.Spans.{start_next, starts_rise, span_is}
-use Rattle.calendar.proofs.Years.{next_year, first_day_lem, year_most, year_begun, year_inside, month_most, month_begun, month_inside}
+use Rattle.calendar.proofs.Years.{month_range, next_year, first_day_lem, year_most, year_begun, year_inside, month_most, month_begun, month_inside}
 
 pub record At (y m k : ℕ) : Type 0 where
   pub year : y < 100
@@ -47,31 +48,11 @@ pub record Real (t : Date) : Type 0 where
 
 pub real_parts : (t : Date) → real t ≡ true → Real t
 unfolding real
-real_parts t e =
-    let all = (and-eq-true_iff _ _).0 e in
-    let upper = (and-eq-true_iff _ _).0 all.0 in
-    let years = (and-eq-true_iff _ _).0 upper.0 in
-    let months = (and-eq-true_iff _ _).0 upper.1 in
-    let days = (and-eq-true_iff _ _).0 all.1 in
-    record {
-      year_low = leb-true _ _ years.0;
-      year_high = leb-true _ _ years.1;
-      month_low = leb-true _ _ months.0;
-      month_high = leb-true _ _ months.1;
-      day_low = leb-true _ _ days.0;
-      day_high = leb-true _ _ days.1;
-    }
+real_parts t e = grind (arith, nat_tests)
 
 pub real_day : (t : Date) → 2000 ≤ t.year → t.year ≤ 2099 → 1 ≤ t.month → t.month ≤ 12 → 1 ≤ t.day → real t ≡ leb t.day (month_days t)
 unfolding real
-real_day t a b c d e = simp (le-leb 2000 t.year a, le-leb t.year 2099 b, le-leb 1 t.month c, le-leb t.month 12 d, le-leb 1 t.day e)
-
-pub not_real : (t : Date) → (Real t → ⊥) → real t ≡ false
-not_real t f = go (real t) refl
-  where
-    go : (b : Bool) → real t ≡ b → b ≡ false
-    go true e = absurd (f (real_parts t e))
-    go false e = refl
+real_day t a b c d e = grind (arith, nat_tests)
 
 pub uncounted : (t : Date) → real t ≡ false → day_of t ≡ never
 unfolding day_of
@@ -108,6 +89,10 @@ date_at_lem {y} {m} {k} a =
     let e : day_at y m k - first_day y ≡ month_start b m + k = omega arith in
     let f : month_start b m + k - month_start b m ≡ k = omega arith in
     rw (le-leb (day_at y m k) last_day (by_last a), year_at a, e, month_at a, f) refl
+
+pub undated : (d : ℕ) → last_day < d → date_of d ≡ no_date
+unfolding date_of
+undated d h = rw (lt-leb d last_day h) refl
 
 -- every day up to the last is somewhere
 pub record Somewhere (d : ℕ) : Type 0 where
@@ -148,5 +133,43 @@ date_there t r =
 pub day_is : (t : Date) → Real t → day_of t ≡ day_at (t.year - 2000) (t.month - 1) (t.day - 1)
 day_is t r = ap day_of (sym (date_there t r)) ∙ day_at_lem (at_date t r)
 
-pub day_sum : (t : Date) → Real t → day_of t ≡ first_day (t.year - 2000) + month_start (leap t.year) (t.month - 1) + (t.day - 1)
-day_sum t r = rw (year_again t r) at (day_is t r)
+-- what the code goes by at a real date, and at a day that has a date
+pub record Counted (t : Date) : Type 0 where
+  pub is_real : real t ≡ true
+  pub parts : Real t
+  pub fits : day_of t ≤ last_day
+  pub is : day_of t ≡ first_day (t.year - 2000) + month_start (leap t.year) (t.month - 1) + (t.day - 1)
+
+pub counted : (t : Date) → real t ≡ true → Counted t
+counted t e =
+    let r = real_parts t e in
+    record { is_real = e; parts = r; fits = omega (arith, day_is t r, by_last (at_date t r)); is = rw (year_again t r) at (day_is t r) }
+
+pub record Placed (d y k m s : ℕ) : Type 0 where
+  pub year : y < 100
+  pub in_year : first_day y ≤ d
+  pub before_end : k < month_start (leap (2000 + y)) 12
+  pub month : m < 12
+  pub in_month : s ≤ k
+  pub day : k - s < 31
+  pub is : date_of d ≡ date (2000 + y) (m + 1) (k - s + 1)
+
+-- the year of day d, the day in it, its month, and that month's first day in the year
+abbrev PlacedIn : ℕ → ℕ → ℕ → Bool → Type 0
+PlacedIn d y k b = Placed d y k (month_of b k) (month_start b (month_of b k))
+
+pub placed : (d : ℕ) → d ≤ last_day → PlacedIn d (year_of d) (d - first_day (year_of d)) (leap (2000 + year_of d))
+unfolding date_of date_in
+placed d h =
+    let b = leap (2000 + year_of d) in
+    let k = d - first_day (year_of d) in
+    let month : month_of b k < 12 = omega (arith, month_most b k) in
+    record {
+      year = omega (arith, year_most d);
+      in_year = year_begun d;
+      before_end = year_inside d h;
+      month = month;
+      in_month = month_begun b k;
+      day = omega (arith, month_inside b k (year_inside d h), month_range b (month_of b k) month);
+      is = rw (le-leb d last_day h) refl;
+    }

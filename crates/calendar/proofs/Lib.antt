@@ -3,4 +3,4 @@ pub mod Years
 pub mod Dates
 pub mod Periods
 pub mod Calendar
-pub mod Steps
+pub mod Printed

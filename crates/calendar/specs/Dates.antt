@@ -1,5 +1,5 @@
 -- Dates from 2000-01-01 to 2099-12-31, and the days that they are.
-use Rattle.std.specs.Prelude.{ℕ, ◌+◌, ◌-◌, ◌*◌, Bool, cond, ◌&&◌, leb, ltb}
+use Rattle.std.specs.Prelude.{ℕ, ◌+◌, ◌-◌, ◌*◌, Bool, cond, ◌&&◌, leb, ltb, List, ◌∷◌, ◌++◌, decimal}
 use Rattle.measures.specs.Days.{last_day}
 use Rattle.calendar.specs.Years.{leap, days_of_month, first_day, year_of, month_start, month_of}
 use Rattle.calendar.specs.declared.Date.{Date}
@@ -45,3 +45,11 @@ next_of t =
 -- a date as the number that it is written as without hyphens
 abbrev pub yyyymmdd : Date → ℕ
 yyyymmdd t = 10000 * t.year + 100 * t.month + t.day
+
+-- a number in decimal, of two digits at least
+abbrev pub two_digits : ℕ → List ℕ
+two_digits n = cond (ltb n 10) (48 ∷ decimal n) (decimal n)
+
+-- a date as it is printed
+abbrev pub date_text : Date → List ℕ
+date_text t = decimal t.year ++ (45 ∷ two_digits t.month ++ (45 ∷ two_digits t.day))

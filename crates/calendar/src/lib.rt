@@ -2,24 +2,36 @@
 // a date that the calendar does not have has no day, NEVER.
 #![tactic(auto)]
 
-ghost use Rattle.std.specs.Prelude.{◌≡◌, ◌<◌, false};
+ghost use Rattle.std.specs.Prelude.{◌≡◌, ◌<◌, Some};
 ghost use Rattle.measures.specs.Days.{day};
-ghost use Rattle.calendar.specs.Years.{leap, month_start, month_of, first_day, year_of};
-ghost use Rattle.calendar.specs.Dates.{date_of, real, day_of};
+ghost use Rattle.calendar.specs.Years.{leap, days_of_month, month_start, month_of, first_day, year_of};
+ghost use Rattle.calendar.specs.Dates.{date_of, real, day_of, date_text};
 ghost use Rattle.calendar.specs.Periods.{years_on};
 
 use measures::Day;
+use std::fmt;
 
 // January is month 1.
-#[derive(Clone, Copy)]
+#[derive(Clone, Copy, PartialEq, Eq, PartialOrd, Ord, Debug)]
 pub struct Date {
     pub year: u16,
     pub month: u8,
     pub day: u8,
 }
 
-// A number above every day.
-pub const NEVER: u16 = 65535;
+// Year, month and day, the last two of two digits at least.
+impl fmt::Display for Date {
+    ghost output = { λ t. Some (date_text t) };
+
+    #[tactic(auto, using(crate::proofs::Printed::two_wide))]
+    fn fmt<W: fmt::Write>(&self, f: &mut fmt::Formatter<W>) -> fmt::Result {
+        let Date { year, month, day } = *self;
+        write!(f, "{year}-{month:02}-{day:02}")
+    }
+}
+
+// A number above every day: a period that ends after the last day is compared as any other, without a case of its own.
+pub const NEVER: u16 = u16::MAX;
 
 // The days of four years in a row, one of which is a leap year.
 const FOUR_YEARS: u32 = 1461;
@@ -37,43 +49,39 @@ fn is_leap(year: u16) -> bool
     year % 4 == 0
 }
 
-#[tactic(auto, unfolding(crate::specs::Years::start, crate::specs::Years::days_of_month, crate::specs::Years::months))]
-fn common_start(month: usize) -> u16
-    requires { month < 13 }
-    ensures { result ≡ month_start false month }
-{
-    MONTH_STARTS[month]
-}
-
 // The days of a year, long where it is a leap year, before its month, from 0.
+#[tactic(auto, using(crate::proofs::Years::by_table))]
 fn month_start(long: bool, month: usize) -> u16
     requires { month < 13 }
     ensures { result ≡ month_start long month }
 {
-    let start = common_start(month);
-    if long {
-        if 2 <= month {
-            return start + 1;
-        }
-    }
-    start
+    MONTH_STARTS[month] + u16::from(long && 2 <= month)
+}
+
+#[tactic(auto, using(crate::proofs::Years::next_month))]
+fn days_of_month(long: bool, month: usize) -> u16
+    requires { month < 12 }
+    ensures { result ≡ days_of_month long month }
+{
+    month_start(long, month + 1) - month_start(long, month)
 }
 
 // The month of a year's day, both from 0. A month has at most 31 days and two have at least 59, so it is at / 32 or the next.
+#[tactic(auto, using(crate::proofs::Years::month_next, crate::proofs::Years::month_same, crate::proofs::Years::december))]
 fn month_of(long: bool, at: u16) -> usize
     requires { at < month_start long 12 }
     ensures { result ≡ month_of long at }
 {
-    let month = (at / 32) as usize;
-    if month < 11 {
-        if month_start(long, month + 1) <= at {
-            return month + 1;
-        }
+    let month = usize::from(at / 32);
+    if month < 11 && month_start(long, month + 1) <= at {
+        month + 1
+    } else {
+        month
     }
-    month
 }
 
 // The first day of the year 2000 + year.
+#[tactic(auto, using(crate::proofs::Years::first_day_lem))]
 fn first_day(year: usize) -> u16
     requires { year < 100 }
     ensures { result ≡ first_day year }
@@ -82,17 +90,14 @@ fn first_day(year: usize) -> u16
 }
 
 // The year of a day, from 0 for 2000 to 99 for 2099, in which later days count too.
+#[tactic(auto, using(crate::proofs::Years::year_is))]
 pub fn year_of(day: Day) -> usize
     ensures { result ≡ year_of day.0 }
 {
-    if day.0 <= Day::LAST {
-        (4 * day.0 as u32 / FOUR_YEARS) as usize
-    } else {
-        99
-    }
+    (4 * u32::from(day.0) / FOUR_YEARS).min(99) as usize
 }
 
-#[tactic(auto, unfolding(crate::specs::Dates::date_of))]
+#[tactic(auto, using(crate::proofs::Dates::placed, crate::proofs::Dates::undated))]
 pub fn date_of(day: Day) -> Date
     ensures { result ≡ date_of day.0 }
 {
@@ -117,38 +122,25 @@ pub fn date_of(day: Day) -> Date
 }
 
 // Whether there is such a date from 2000 to 2099.
+#[tactic(auto, unfolding(crate::specs::Dates::real), using(std::proofs::lemmas::Bool::Decides::nat_tests))]
 fn is_real(date: Date) -> bool
     ensures { result ≡ real date }
 {
-    if date.year < 2000 {
-        return false;
-    }
-    if 2099 < date.year {
-        return false;
-    }
-    if date.month < 1 {
-        return false;
-    }
-    if 12 < date.month {
-        return false;
-    }
-    if date.day < 1 {
-        return false;
-    }
-    let long = is_leap(date.year);
-    let month = date.month as usize;
-    let days = month_start(long, month) - month_start(long, month - 1);
-    date.day as u16 <= days
+    let Date { year, month, day } = date;
+    (2000..=2099).contains(&year)
+        && (1..=12).contains(&month)
+        && 1 <= day
+        && u16::from(day) <= days_of_month(is_leap(year), usize::from(month) - 1)
 }
 
-#[tactic(auto, unfolding(crate::specs::Dates::day_of))]
+#[tactic(auto, using(crate::proofs::Dates::counted, crate::proofs::Dates::uncounted))]
 pub fn day_of(date: Date) -> Day
     ensures { result ≡ day (day_of date) }
 {
     if is_real(date) {
-        let start = first_day(date.year as usize - 2000);
-        let month = month_start(is_leap(date.year), date.month as usize - 1);
-        Day(start + month + date.day as u16 - 1)
+        let start = first_day(usize::from(date.year) - 2000);
+        let month = month_start(is_leap(date.year), usize::from(date.month) - 1);
+        Day(start + month + u16::from(date.day) - 1)
     } else {
         Day(NEVER)
     }
@@ -156,13 +148,16 @@ pub fn day_of(date: Date) -> Day
 
 // The day on which a period of so many years ends, and NEVER where that is after 2099. Counted from 1 March 1996, every fourth year ends with a
 // 29 February: the period has 365 days for each of its years, and one more for each 29 February that it passes.
+#[tactic(auto, using(crate::proofs::Periods::by_formula, crate::proofs::Periods::past_formula))]
 pub fn years_on(start: Day, years: u8) -> Day
     ensures { result ≡ day (years_on years start.0) }
 {
-    let from = (4 * (start.0 as u32 + FROM_MARCH) + 3) / FOUR_YEARS;
-    let leap_days = (from + years as u32) / 4 - from / 4;
-    let end = start.0 as u32 + 365 * years as u32 + leap_days;
-    if end <= Day::LAST as u32 {
+    let start = u32::from(start.0);
+    let years = u32::from(years);
+    let from = (4 * (start + FROM_MARCH) + 3) / FOUR_YEARS;
+    let leap_days = (from + years) / 4 - from / 4;
+    let end = start + 365 * years + leap_days;
+    if end <= u32::from(Day::LAST) {
         Day(end as u16)
     } else {
         Day(NEVER)

@@ -11,9 +11,10 @@ use Rattle.entries.specs.declared.raw.Raw.{Raw}
 use Rattle.entries.specs.declared.refusals.Refusal.TheVariants.{ResultsShort}
 use Rattle.book.specs.declared.Book.{Book}
 use Rattle.book.specs.Posting.{post_of, posts_of}
-use Rattle.carry.specs.declared.Carried.{Carried}
-use Rattle.carry.specs.declared.CarryAnswer.TheVariants.{Refused, Accepted}
-use Rattle.carry.specs.Carry.{refusals_of, short_of, carry_number_of, carry_refusal_of, carry_book_of, carry_results_of, carried_reply, carry_of}
+use Rattle.entries.specs.Refusals.{check_number, Check}
+use Rattle.book.specs.declared.Next.{Next}
+use Rattle.std.specs.Prelude.{Ok, Err}
+use Rattle.carry.specs.Carry.{refusals_of, short_of, carry_refusal_of, carry_book_of, carry_results_of, carried_reply, carry_of}
 
 -- stands for what lies past the end of the entries
 abbrev pub no_raw : Raw
@@ -39,11 +40,11 @@ unfolding refusals_of
 refusals_end b xs = rw drop-length
 
 -- what the contract says of the result r and the result list zs at the end
-abbrev pub Said : Book → List Raw → List ℕ → Carried → List ℕ → Type 0
+abbrev pub Said : Book → List Raw → List ℕ → Next Check → List ℕ → Type 0
 Said b xs rs r zs = (carried_reply r ≡ carry_of b xs rs) × (zs ≡ carry_results_of b xs rs)
 
-pub refused : (b : Book) (xs : List Raw) (rs : List ℕ) → length rs < length xs → Said b xs rs (record { book = b; answer = Refused ResultsShort }) rs
-unfolding carry_book_of carry_number_of carry_refusal_of carry_results_of
+pub refused : (b : Book) (xs : List Raw) (rs : List ℕ) → length rs < length xs → Said b xs rs (record { book = b; answer = Err ResultsShort }) rs
+unfolding carry_book_of check_number carry_refusal_of carry_results_of
 refused b xs rs lt = let e : short_of xs rs ≡ true = lt-ltb (length rs) (length xs) lt in (rw e refl, rw e refl)
 
 pub record Turn (b₀ : Book) (xs : List Raw) (rs : List ℕ) (i : ℕ) (b : Book) (zs : List ℕ) : Type 0 where
@@ -78,6 +79,6 @@ module _ {b₀ : Book} {xs : List Raw} {rs : List ℕ} {i : ℕ} {b : Book} {zs 
     long : short_of xs rs ≡ false
     long = le-ltb (length rs) (length xs) fit
 
-    pub accepted : Said b₀ xs rs (record { book = b; answer = Accepted }) zs
-    unfolding carry_book_of carry_number_of carry_refusal_of carry_results_of
+    pub accepted : Said b₀ xs rs (record { book = b; answer = Ok tt }) zs
+    unfolding carry_book_of check_number carry_refusal_of carry_results_of
     accepted = (rw (long, last_book) refl, rw long last_results)

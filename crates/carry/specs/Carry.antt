@@ -1,13 +1,11 @@
 -- A carry-over: the other node's entries, each posted in turn.
 use Rattle.std.specs.Prelude.{ℕ, Bool, cond, List, [], ◌∷◌, ◌++◌, length, drop, ltb}
-use Rattle.entries.specs.Refusals.{refusal_number}
+use Rattle.entries.specs.Refusals.{refusal_number, check_number, Check}
 use Rattle.entries.specs.declared.raw.Raw.{Raw}
 use Rattle.entries.specs.declared.refusals.Refusal.TheVariants as no
 use Rattle.book.specs.Posting.{post_of, posts_of}
 use Rattle.book.specs.declared.Book.{Book}
-use Rattle.carry.specs.declared.Carried.{Carried}
-use Rattle.carry.specs.declared.CarryAnswer.{CarryAnswer}
-use Rattle.carry.specs.declared.CarryAnswer.TheVariants.{Refused, Accepted}
+use Rattle.book.specs.declared.Next.{Next}
 
 -- the refusal number of each entry, or 0, where each is posted in turn
 unfoldable pub refusals_of : Book → List Raw → List ℕ
@@ -33,12 +31,8 @@ pub record CarriedReply : Type 0 where
   pub book : Book
   pub refusal : ℕ
 
-unfoldable pub carry_number_of : CarryAnswer → ℕ
-carry_number_of (Refused n) = refusal_number n
-carry_number_of Accepted = 0
-
-abbrev pub carried_reply : Carried → CarriedReply
-carried_reply c = record { book = c.book; refusal = carry_number_of c.answer }
+abbrev pub carried_reply : Next Check → CarriedReply
+carried_reply c = record { book = c.book; refusal = check_number c.answer }
 
 abbrev pub carry_of : Book → List Raw → List ℕ → CarriedReply
 carry_of b rs results = record { book = carry_book_of b rs results; refusal = carry_refusal_of rs results }

@@ -16,7 +16,7 @@ pub const AT_ONCE: usize = 64;
 fn taken(count: usize) -> usize
     ensures { result ≡ min count at_once }
 {
-    if count <= AT_ONCE { count } else { AT_ONCE }
+    count.min(AT_ONCE)
 }
 
 // Carries over the first `count` entries of an array, or all of them where `count` is above its length.

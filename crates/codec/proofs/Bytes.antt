@@ -1,17 +1,14 @@
 -- Laws of numbers as bytes, over every width.
-use Prim.Native.Nat.{ℕ, zero, suc, ◌+◌, ◌*◌, ◌/◌, ◌%◌, ◌≤◌, ◌<◌}
+use Prim.Native.Nat.{ℕ, zero, suc, ◌+◌, ◌*◌, ◌/◌, ◌%◌, ◌^◌, ◌≤◌, ◌<◌}
 use mathlib.Core.Path.{◌≡◌, refl, ap}
-use mathlib.Core.Bool.{true, false, and-false}
 use mathlib.Core.List.{List, [], ◌∷◌}
 use native.Mathlib.Nat.{add-zero}
-use native.Mathlib.Numerals.{add-one}
 use native.Mathlib.Omega.{arith}
 use lib.ListN.{length, get_or, take, drop}
-use lib.Seq.{drop-cons, drop-drop, get_or-drop, take-nil, length-take-le}
-use lib.Dec.{eqb}
-use borrow.Author.Tests.{eq-eqb, ne_eqb, eqb-true}
-use Rattle.entries.proofs.Ranges.{both_true}
-use Rattle.codec.specs.Bytes.{to_bytes, from_bytes, capacity, Bytes, eq_list}
+use lib.Seq.{get_or-drop, take-nil, length-take-le}
+use Rattle.std.specs.Int.{Width, byte_len, byte_at, bytes_low_first, to_le_bytes}
+use Rattle.std.proofs.Math.Nat.{pow-suc, div-div-eq-div-mul}
+use Rattle.codec.specs.Bytes.{to_bytes, from_bytes, capacity, Bytes}
 
 pub length_to_bytes : (w x : ℕ) → length (to_bytes w x) ≡ w
 length_to_bytes zero x = refl
@@ -53,17 +50,16 @@ from_bytes_head : (n : ℕ) (l : List ℕ) → from_bytes (take (suc n) l) ≡ g
 from_bytes_head n [] = rw (take-nil n) refl
 from_bytes_head n (b ∷ l) = refl
 
-from_bytes_next : (l : List ℕ) (at next n : ℕ) → next ≡ at + 1 →
-    from_bytes (take (suc n) (drop at l)) ≡ get_or l at 0 + 256 * from_bytes (take n (drop next l))
-from_bytes_next l at next n e =
-    rw (e, ← drop-drop 1 at l, ← add-zero at, ← get_or-drop at l 0 0, add-zero at) (from_bytes_head n (drop at l))
-
 pub from_bytes_two : (l : List ℕ) (at : ℕ) → from_bytes (take 2 (drop at l)) ≡ get_or l at 0 + 256 * get_or l (at + 1) 0
-from_bytes_two l at = omega (arith, from_bytes_next l at (at + 1) 1 refl, from_bytes_next l (at + 1) (at + 2) 0 (omega arith))
-
-pub from_bytes_four : (l : List ℕ) (at : ℕ) → from_bytes (take 4 (drop at l)) ≡ from_bytes (take 2 (drop at l)) + 65536 * from_bytes (take 2 (drop (at + 2) l))
-from_bytes_four l at =
-    omega (arith, from_bytes_two l at, from_bytes_next l at (at + 1) 3 refl, from_bytes_next l (at + 1) (at + 2) 2 (omega arith))
+from_bytes_two l at =
+    omega (
+      arith,
+      from_bytes_head 1 (drop at l),
+      from_bytes_head 0 (drop 1 (drop at l)),
+      rw add-zero at (get_or-drop at l 0 0),
+      get_or-drop 1 (drop at l) 0 0,
+      get_or-drop at l 1 0,
+    )
 
 -- the same bytes, 0 past the end, are the same number
 pub from_bytes_same : (w : ℕ) (a b : List ℕ) → ((i : ℕ) → i < w → get_or a i 0 ≡ get_or b i 0) → from_bytes (take w a) ≡ from_bytes (take w b)
@@ -71,26 +67,15 @@ from_bytes_same zero a b h = refl
 from_bytes_same (suc w) a b h =
     rw (from_bytes_head w a, from_bytes_head w b, h 0 (omega arith), from_bytes_same w (drop 1 a) (drop 1 b) (λ i k. rw (get_or-drop 1 a i 0, get_or-drop 1 b i 0) (h (1 + i) (omega arith))))
 
--- SAMENESS
+-- STD'S LITTLE-ENDIAN BYTES
 
-pub eq_list_eq : (a b : List ℕ) → eq_list a b ≡ true → a ≡ b
-eq_list_eq [] [] h = refl
-eq_list_eq [] (y ∷ b) h = let z : ◌≡◌ {A = ℕ} 0 1 = cc in absurd (omega arith)
-eq_list_eq (x ∷ a) [] h = let z : ◌≡◌ {A = ℕ} 0 1 = cc in absurd (omega arith)
-eq_list_eq (x ∷ a) (y ∷ b) h =
-    let p = both_true (eqb x y) (eq_list a b) h in
-    rw (eqb-true x y p.0, eq_list_eq a b p.1)
+byte_is : (i x : ℕ) → byte_at i x ≡ x / 256 ^ i % 256
+byte_is zero x = omega arith
+byte_is (suc i) x = refl
 
-pub eq_list_step : (a b : List ℕ) (i : ℕ) → i < length a → i < length b → get_or a i 0 ≡ get_or b i 0 →
-    eq_list (drop i a) (drop i b) ≡ eq_list (drop (i + 1) a) (drop (i + 1) b)
-eq_list_step a b i h k e = rw (add-one i, drop-cons a i 0 h, drop-cons b i 0 k, eq-eqb _ _ e)
+low_first : (n i x : ℕ) → bytes_low_first i n x ≡ to_bytes n (x / 256 ^ i)
+low_first zero i x = refl
+low_first (suc n) i x = rw (byte_is i x, low_first n (suc i) x, pow-suc 256 i, ← div-div-eq-div-mul x (256 ^ i) 256) refl
 
-pub eq_list_stop : (a b : List ℕ) (i : ℕ) → i < length a → i < length b → (get_or a i 0 ≡ get_or b i 0 → ⊥) →
-    eq_list (drop i a) (drop i b) ≡ false
-eq_list_stop a b i h k e = rw (drop-cons a i 0 h, drop-cons b i 0 k, ne_eqb _ _ e)
-
-pub eq_list_length : (a b : List ℕ) → (length a ≡ length b → ⊥) → eq_list a b ≡ false
-eq_list_length [] [] h = absurd (h refl)
-eq_list_length [] (y ∷ b) h = refl
-eq_list_length (x ∷ a) [] h = refl
-eq_list_length (x ∷ a) (y ∷ b) h = rw (eq_list_length a b (λ e. h (ap suc e))) (and-false (eqb x y))
+pub to_le : (w : Width) (x : ℕ) → to_le_bytes w x ≡ to_bytes (byte_len w) x
+to_le w x = rw (low_first (byte_len w) 0 x) (ap (to_bytes (byte_len w)) (omega arith))

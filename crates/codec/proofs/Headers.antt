@@ -8,15 +8,14 @@ use lib.ListN.{length, take, drop, replicate, length-drop}
 use lib.Seq.{take-add}
 use lib.Dec.{eqb, leb}
 use borrow.Author.Tests.{eq-eqb, eqb-true, le-leb, leb-true, not-false}
-use Rattle.entries.specs.Refusals.{refuse_if}
-use Rattle.entries.specs.declared.refusals.Refusal.{Refusal}
-use Rattle.entries.specs.declared.refusals.Check.TheVariants as check
+use Rattle.std.specs.Prelude.{Ok}
 use Rattle.entries.proofs.RefusalsLaws.{row_of, unbroken}
 use Rattle.entries.proofs.Ranges.{both_true}
 use Rattle.codec.specs.Records.{record_bytes}
 use Rattle.codec.specs.Bytes.{to_bytes, Bytes}
 use Rattle.codec.specs.Headers.{longest_image, mark, header_of, count_in, fits_of, marked, image_rows, check_of}
-use Rattle.codec.proofs.Bytes.{from_to_bytes, to_from_bytes_take, bytes_drop, eq_list_eq}
+use Rattle.codec.proofs.Bytes.{from_to_bytes, to_from_bytes_take, bytes_drop}
+use Rattle.std.proofs.lemmas.Slice.Eq.{bytes_eq-Decides}
 
 pub length_header : (n : ℕ) → length (header_of n) ≡ record_bytes
 unfolding header_of
@@ -33,8 +32,8 @@ marks n rest = refl
 
 -- a header and its records pass the checks
 pub header_passes : (n : ℕ) (rest : List ℕ) → record_bytes * (n + 1) ≤ longest_image → length (header_of n ++ rest) ≡ record_bytes * (n + 1) →
-    check_of (header_of n ++ rest) ≡ check.Passed
-unfolding check_of refuse_if
+    check_of (header_of n ++ rest) ≡ Ok tt
+unfolding check_of
 header_passes n rest h len =
     let l : List ℕ = header_of n ++ rest in
     let low : leb record_bytes (length l) ≡ true = le-leb record_bytes (length l) (omega arith) in
@@ -43,14 +42,6 @@ header_passes n rest h len =
     let c : eqb (count_in l) (length l / record_bytes - 1) ≡ true =
     eq-eqb (count_in l) (length l / record_bytes - 1) (omega (arith, count_header n rest (omega arith))) in
     simp (low, high, even, marks n rest, c)
-
-pub rule_broken : (n : Refusal) → refuse_if check.Passed true n ≡ check.Refused n
-unfolding refuse_if
-rule_broken n = refl
-
-pub rule_kept : (n : Refusal) → refuse_if check.Passed false n ≡ check.Passed
-unfolding refuse_if
-rule_kept n = refl
 
 pub fits_ends : (n : ℕ) → fits_of n ≡ true → (record_bytes ≤ n) × (n ≤ longest_image) × (n % record_bytes ≡ 0)
 fits_ends n e =
@@ -61,22 +52,24 @@ fits_ends n e =
 -- what an image that passes the checks satisfies
 pub record PassedChecks (l : List ℕ) : Type 0 where
   pub low : record_bytes ≤ length l
+  pub short : length l ≤ longest_image
   pub sized : length l ≡ record_bytes * (count_in l + 1)
   pub same_mark : take 4 l ≡ mark
   pub same_zeros : take 18 (drop 6 l) ≡ replicate 18 0
 
-pub checked : (l : List ℕ) → check_of l ≡ check.Passed → PassedChecks l
+pub checked : (l : List ℕ) → check_of l ≡ Ok tt → PassedChecks l
 unfolding check_of
 checked l e =
-    let row : (n : ℕ) → (row_of n (image_rows l)).broken ≡ false = λ n. unbroken n check.Passed (image_rows l) e in
+    let row : (n : ℕ) → (row_of n (image_rows l)).broken ≡ false = λ n. unbroken n (image_rows l) e in
     let fits = fits_ends (length l) (not-false _ (row 17)) in
     let marked = both_true _ _ (not-false _ (row 18)) in
     let count = eqb-true (count_in l) (length l / record_bytes - 1) (not-false _ (row 19)) in
     record {
       low = fits.0;
+      short = fits.1;
       sized = omega arith;
-      same_mark = eq_list_eq (take 4 l) mark marked.0;
-      same_zeros = eq_list_eq (take 18 (drop 6 l)) (replicate 18 0) marked.1;
+      same_mark = sym ((bytes_eq-Decides mark (take 4 l)).0 marked.0);
+      same_zeros = (bytes_eq-Decides (take 18 (drop 6 l)) (replicate 18 0)).0 marked.1;
     }
 
 parts : (l a b z : List ℕ) → take 4 l ≡ a → take 2 (drop 4 l) ≡ b → take 18 (drop 6 l) ≡ z → a ++ b ++ z ≡ take record_bytes l

@@ -1,5 +1,5 @@
 -- Numbers as bytes, little-endian, and back.
-use Rattle.std.specs.Prelude.{ℕ, zero, suc, ◌+◌, ◌*◌, ◌/◌, ◌%◌, ◌<◌, Bool, true, false, ◌&&◌, List, [], ◌∷◌, eqb}
+use Rattle.std.specs.Prelude.{ℕ, zero, suc, ◌+◌, ◌*◌, ◌/◌, ◌%◌, ◌<◌, List, [], ◌∷◌}
 
 -- the w low bytes of x
 abbrev pub to_bytes : ℕ → ℕ → List ℕ
@@ -20,10 +20,3 @@ capacity (suc w) = 256 * capacity w
 abbrev pub Bytes : List ℕ → Type 0
 Bytes [] = Unit {0}
 Bytes (b ∷ bs) = (b < 256) × Bytes bs
-
--- the two lists are the same
-abbrev pub eq_list : List ℕ → List ℕ → Bool
-eq_list [] [] = true
-eq_list [] (y ∷ ys) = false
-eq_list (x ∷ xs) [] = false
-eq_list (x ∷ xs) (y ∷ ys) = eqb x y && eq_list xs ys

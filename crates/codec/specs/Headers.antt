@@ -1,10 +1,10 @@
 -- An image's header, and what a load checks before the records: 17 to 19.
 use Rattle.std.specs.Prelude.{ℕ, ◌-◌, ◌/◌, ◌%◌, Bool, not, ◌&&◌, List, [], ◌∷◌, ◌++◌, length, take, drop, replicate, eqb, leb}
-use Rattle.entries.specs.Refusals.{Row, ◌⇒◌, check_rows}
+use Rattle.std.specs.List.{starts_with}
+use Rattle.std.specs.Str.{bytes_eq}
+use Rattle.entries.specs.Refusals.{Check, Row, ◌⇒◌, check_rows}
 use Rattle.entries.specs.declared.refusals.Refusal.TheVariants as no
-use Rattle.entries.specs.declared.refusals.Check.{Check}
-use Rattle.entries.specs.declared.refusals.Check.TheVariants as check
-use Rattle.codec.specs.Bytes.{to_bytes, from_bytes, eq_list}
+use Rattle.codec.specs.Bytes.{to_bytes, from_bytes}
 use Rattle.codec.specs.Records.{record_bytes}
 
 -- the bytes of the longest image: the header and 1,024 records
@@ -29,7 +29,7 @@ fits_of n = (leb record_bytes n && leb n longest_image) && eqb (n % record_bytes
 
 -- the mark is CHB1, and the header's bytes from 6 to 23 are zero
 abbrev pub marked : List ℕ → Bool
-marked l = eq_list (take 4 l) mark && eq_list (take 18 (drop 6 l)) (replicate 18 0)
+marked l = starts_with eqb l mark && bytes_eq (take 18 (drop 6 l)) (replicate 18 0)
 
 abbrev pub image_rows : List ℕ → List Row
 image_rows l =
@@ -39,4 +39,4 @@ image_rows l =
     []
 
 unfoldable pub check_of : List ℕ → Check
-check_of l = check_rows check.Passed (image_rows l)
+check_of l = check_rows (image_rows l)

@@ -1,383 +1,242 @@
-// The calls: each takes the book that it goes to, the session and its line's numbers, and gives the next ones and the numbers of its answer.
-ghost use Rattle.std.specs.Prelude.{◌<◌};
+// What lasts from line to line, and the calls: each writes its letter and the numbers of its answer as a line.
+ghost use Rattle.std.specs.Prelude.{◌<◌, ◌≡◌, MatchResult};
+ghost use Rattle.entries.specs.Refusals.{refusal_number};
 
-use book::{Book, Posted};
-use carry_lent::{AT_ONCE, carry_first};
-use entries::Raw;
-use loads::{LoadAnswer, load};
-use pages::{PageAnswer, page};
-use queries::{contribution_query, statement};
-use runs::{Ran, close_run, open_run, step};
-use saves::{SaveAnswer, save};
-use text::{PLACES, at, first};
+use arrayvec::ArrayVec;
+use book::Book;
+use carry::carry_over;
+use entries::{Raw, Refusal};
+use loads::load;
+use pages::page;
+use queries::{ContributionReply, StatementReply, contribution_query, statement};
+use rules::{PostingAnswer, PostingReply};
+use runs::{close_run, open_run, step};
+use saves::save;
+use std::io;
+use text::{
+    BUFFER, BookNumber, Call, Change, PLACES, Places, Room, Spaced, Span, Unclear, understood,
+};
 
-// What lasts from line to line, beside the books and the lent buffer.
-#[derive(Clone, Copy)]
-pub struct Session {
-    // The number of the book that calls go to, 1 or 2.
-    pub current: u64,
+// The most entries that are listed for a carry-over.
+const LISTED: usize = 64;
+
+#[derive(Drop)]
+pub struct Session<'a, P: Print> {
+    // Where answers go.
+    rt: &'a P,
+    books: [Book; 2],
+    // The book that calls go to.
+    current: BookNumber,
     // The entries for a carry-over.
-    pub list: [Raw; AT_ONCE],
-    pub listed: usize,
+    list: ArrayVec<Raw, LISTED>,
+    buffer: [u8; BUFFER],
     // The lines read.
-    pub lines: u64,
+    lines: u64,
 }
 
-// The next book and session, and how many numbers the answer has: they stand at the start of the lent list.
-#[derive(Clone, Copy)]
-pub struct Called {
-    pub book: Book,
-    pub session: Session,
-    pub count: usize,
-}
-
-fn flag(b: bool) -> u64 {
-    if b { 1 } else { 0 }
-}
-
-// The entry of a line's ten numbers.
-pub fn entry(numbers: &[u64]) -> Raw {
-    Raw {
-        kind: (at(numbers, 0) % 256) as u8,
-        node: (at(numbers, 1) % 256) as u8,
-        account: (at(numbers, 2) % 65536) as u16,
-        day: (at(numbers, 3) % 65536) as u16,
-        serial: (at(numbers, 4) % 4294967296) as u32,
-        amount: (at(numbers, 5) % 4294967296) as u32,
-        named_serial: (at(numbers, 6) % 4294967296) as u32,
-        a: (at(numbers, 7) % 65536) as u16,
-        b: (at(numbers, 8) % 256) as u8,
-        named_node: (at(numbers, 9) % 256) as u8,
+// An answer's refusal number, 0 where it is accepted.
+fn refusal_of<T>(answer: &Result<T, Refusal>) -> u8
+    ensures { MatchResult answer.now (λ _. result ≡ 0) (λ refusal. result ≡ refusal_number refusal) }
+{
+    match answer {
+        Ok(_) => 0,
+        Err(refusal) => u8::from(*refusal),
     }
 }
 
-// Puts a number at a place of a list, where it has room, and gives the place after it.
-fn put(answer: &mut [u64], at: usize, number: u64) -> usize {
-    if at < answer.len() {
-        answer[at] = number;
-        return at + 1;
-    }
-    at
-}
-
-// Puts the numbers of an answer at the start of a list, and gives how many it has.
-fn tell(answer: &mut [u64], numbers: &[u64]) -> usize {
-    let mut at: usize = 0;
-    let mut i: usize = 0;
-    while i < numbers.len() {
-        at = put(answer, at, numbers[i]);
-        i += 1;
-    }
-    at
-}
-
-fn wide(byte: u8) -> u64 {
-    byte as u64
-}
-
-// Puts bytes into a list from a place on, and gives how many numbers it then has.
-fn tell_bytes(answer: &mut [u64], from: usize, bytes: &[u8]) -> usize {
-    let mut at = from;
-    let mut i: usize = 0;
-    while i < bytes.len() {
-        at = put(answer, at, wide(bytes[i]));
-        i += 1;
-    }
-    at
-}
-
-// s: a statement.
-fn state(book: Book, account: u16, allowance: u64, answer: &mut [u64]) -> usize {
-    let r = statement(book, account, allowance).reply();
-    let numbers = [
-        r.refusal as u64,
-        r.arrears,
-        r.credit,
-        r.deposit,
-        r.held,
-        r.links_read as u64,
-        r.bills,
-        r.payments,
-        flag(r.complete),
-    ];
-    tell(answer, &numbers)
-}
-
-// q: a contribution query.
-fn query(book: Book, account: u16, node: u8, serial: u32, answer: &mut [u64]) -> usize {
-    let r = contribution_query(book, account, node, serial).reply();
-    let numbers = [
-        r.refusal as u64,
-        r.amount,
-        r.to_arrears,
-        r.paid_out,
-        r.held,
-        r.retained,
-        r.added as u64,
-        flag(r.closed),
-    ];
-    tell(answer, &numbers)
-}
-
-// g: a page into the first bytes of the buffer.
-fn page_into(book: Book, account: u16, size: u64, buffer: &mut [u8], answer: &mut [u64]) -> usize {
-    let n = first(buffer, size as usize);
-    match page(book, account, &mut buffer[..n]) {
-        PageAnswer::Refused(refusal) => tell(answer, &[refusal.number() as u64, 0]),
-        PageAnswer::Length(bytes) => tell(answer, &[0, bytes as u64]),
-    }
-}
-
-// w: a save into the first bytes of the buffer.
-fn save_into(book: Book, size: u64, buffer: &mut [u8], answer: &mut [u64]) -> usize {
-    let n = first(buffer, size as usize);
-    match save(book, &mut buffer[..n]) {
-        SaveAnswer::Refused(refusal) => tell(answer, &[refusal.number() as u64, 0]),
-        SaveAnswer::Length(bytes) => tell(answer, &[0, bytes as u64]),
-    }
-}
-
-// Sets the byte so many places after a place, where the buffer has it.
-fn set_byte(buffer: &mut [u8], from: u64, offset: usize, byte: u64) {
-    let start = first(buffer, from as usize);
-    if offset < buffer.len() - start {
-        buffer[start + offset] = (byte % 256) as u8;
-    }
-}
-
-// x: sets bytes of the buffer from a place on.
-fn set(buffer: &mut [u8], numbers: &[u64], count: usize, answer: &mut [u64]) -> usize {
-    let from = at(numbers, 0);
-    let mut i: usize = 1;
-    while i < count {
-        set_byte(buffer, from, i - 1, at(numbers, i));
-        i += 1;
-    }
-    tell(answer, &[i as u64 - 1])
-}
-
-// d: so many bytes of the buffer from a place on.
-fn show(buffer: &[u8], from: u64, count: u64, answer: &mut [u64]) -> usize {
-    let a = first(buffer, from as usize);
-    let rest = &buffer[a..];
-    let n = first(rest, count as usize);
-    tell_bytes(answer, 0, &rest[..n])
-}
-
-impl Session {
-    pub fn fresh() -> Session {
-        let unused = Raw {
-            kind: 0,
-            node: 0,
-            account: 0,
-            day: 0,
-            serial: 0,
-            amount: 0,
-            named_serial: 0,
-            a: 0,
-            b: 0,
-            named_node: 0,
-        };
+impl<'a, P: Print> Session<'a, P> {
+    pub fn fresh(rt: &'a P) -> Session<'a, P> {
         Session {
-            current: 1,
-            list: [unused; AT_ONCE],
-            listed: 0,
+            rt,
+            books: [Book::fresh(); 2],
+            current: BookNumber::First,
+            list: ArrayVec::new(),
+            buffer: [0; BUFFER],
             lines: 0,
         }
     }
 
+    // Answers a line: makes its call and writes the answer, none where the line is passed over.
+    pub fn answer(&mut self, line: &[u8]) -> io::Result<()> {
+        self.lines = self.lines.saturating_add(1);
+        match understood(line) {
+            Ok(Some(call)) => self.make(call),
+            Ok(None) => Ok(()),
+            Err(Unclear) => self.tell_unclear(),
+        }
+    }
+
+    fn make(&mut self, call: Call) -> io::Result<()> {
+        match call {
+            Call::Turn(number) => self.turn(number),
+            Call::Post(entry) => self.post(entry),
+            Call::List(entry) => self.list(entry),
+            Call::CarryOver(places) => self.carry_over(places),
+            Call::Statement { account, allowance } => self.statement(account, allowance),
+            Call::Contribution {
+                account,
+                node,
+                serial,
+            } => self.contribution(account, node, serial),
+            Call::Page { account, room } => self.page(account, room),
+            Call::Save(room) => self.save(room),
+            Call::Load(room) => self.load(room),
+            Call::OpenRun { node, day, rate } => self.open_run(node, day, rate),
+            Call::Step => self.step(),
+            Call::CloseRun => self.close_run(),
+            Call::Set(change) => self.set(&change),
+            Call::Show(span) => self.show(span),
+        }
+    }
+
+    // p, t: what a posting or a run's step answers.
+    fn tell_posting(&self, letter: char, answer: PostingAnswer) -> io::Result<()> {
+        let r = PostingReply::from(answer);
+        println!(self.rt;
+            "{letter} {} {} {} {} {} {}",
+            r.refusal, r.number, r.settled, r.paid_out, r.retained, r.interest,
+        )
+    }
+
+    // r, c: what an opening or a close of a run answers.
+    fn tell_run(&self, letter: char, answer: Result<(), Refusal>) -> io::Result<()> {
+        println!(self.rt; "{letter} {}", refusal_of(&answer))
+    }
+
+    fn tell_unclear(&self) -> io::Result<()> {
+        println!(self.rt; "? {}", self.lines)
+    }
+
     // The place among the books of the one that calls go to.
-    pub fn place(self) -> usize
+    fn place(&self) -> usize
         ensures { result < 2 }
     {
-        if self.current == 2 { 1 } else { 0 }
+        self.current as usize - 1
     }
 
-    // Whether the list has no room for another entry.
-    pub fn full(self) -> bool {
-        AT_ONCE <= self.listed
+    // The book that calls go to.
+    fn book(&self) -> &Book {
+        &self.books[self.place()]
     }
 
-    // With one line more.
-    pub fn next_line(mut self) -> Session {
-        if self.lines < u64::MAX {
-            self.lines += 1;
-        }
-        self
+    // After a call that changes it.
+    fn keep(&mut self, book: Book) {
+        let at = self.place();
+        self.books[at] = book;
     }
 
-    // b: calls go to the book of a number from now on.
-    fn turned(mut self, number: u64) -> Session {
+    fn turn(&mut self, number: BookNumber) -> io::Result<()> {
         self.current = number;
-        self
+        println!(self.rt; "b {}", number as u8)
     }
 
-    // e: with one entry more on the list.
-    fn extended(mut self, entry: Raw) -> Session {
-        let i = self.listed;
-        if i < AT_ONCE {
-            self.list[i] = entry;
-            self.listed = i + 1;
+    fn post(&mut self, entry: Raw) -> io::Result<()> {
+        let at = self.place();
+        let answer = self.books[at].offer(entry);
+        self.tell_posting('p', answer)
+    }
+
+    // A full list leaves the line unclear.
+    fn list(&mut self, entry: Raw) -> io::Result<()> {
+        match self.list.try_push(entry) {
+            Ok(()) => println!(self.rt; "e {}", self.list.len()),
+            Err(_) => self.tell_unclear(),
         }
-        self
     }
 
-    // With an empty list.
-    fn emptied(mut self) -> Session {
-        self.listed = 0;
-        self
+    // The list is empty afterwards.
+    fn carry_over(&mut self, places: Places) -> io::Result<()> {
+        let mut results = [255; PLACES];
+        let results = &mut results[..places.count];
+        let list = self.list.as_slice();
+        let carried = carry_over(*self.book(), list, results);
+        self.keep(carried.book);
+        self.list.clear();
+        println!(self.rt; "o {}{}", refusal_of(&carried.answer), Spaced(results))
     }
-}
 
-// p, t: what a posting or a run's step gives.
-fn posted(posted: Posted, session: Session, answer: &mut [u64]) -> Called {
-    let given = posted.answer;
-    let r = given.reply();
-    let numbers = [
-        r.refusal as u64,
-        r.number as u64,
-        r.settled,
-        r.paid_out,
-        r.retained,
-        r.interest,
-    ];
-    let count = tell(answer, &numbers);
-    let next = posted.book;
-    Called {
-        book: next,
-        session,
-        count,
+    fn statement(&self, account: u16, allowance: u64) -> io::Result<()> {
+        let r = StatementReply::from(statement(self.book(), account, allowance));
+        println!(self.rt;
+            "s {} {} {} {} {} {} {} {} {}",
+            r.refusal,
+            r.arrears,
+            r.credit,
+            r.deposit,
+            r.held,
+            r.links_read,
+            r.bills,
+            r.payments,
+            u8::from(r.complete),
+        )
     }
-}
 
-// r, c: what an opening or a close of a run gives.
-fn ran(ran: Ran, session: Session, answer: &mut [u64]) -> Called {
-    let given = ran.answer;
-    let count = tell(answer, &[given.number() as u64]);
-    let next = ran.book;
-    Called {
-        book: next,
-        session,
-        count,
+    fn contribution(&self, account: u16, node: u8, serial: u32) -> io::Result<()> {
+        let answer = contribution_query(self.book(), account, node, serial);
+        let r = ContributionReply::from(answer);
+        println!(self.rt;
+            "q {} {} {} {} {} {} {} {}",
+            r.refusal,
+            r.amount,
+            r.to_arrears,
+            r.paid_out,
+            r.held,
+            r.retained,
+            r.added,
+            u8::from(r.closed),
+        )
     }
-}
 
-// The calls of a run.
-fn run_call(
-    book: Book,
-    session: Session,
-    letter: u8,
-    numbers: &[u64],
-    answer: &mut [u64],
-) -> Called {
-    let node = (at(numbers, 0) % 256) as u8;
-    let day = (at(numbers, 1) % 65536) as u16;
-    let rate = (at(numbers, 2) % 65536) as u16;
-    match letter {
-        b'r' => ran(open_run(book, node, day, rate), session, answer),
-        b't' => posted(step(book), session, answer),
-        _ => ran(close_run(book), session, answer),
+    fn page(&mut self, account: u16, room: Room) -> io::Result<()> {
+        let book = *self.book();
+        let answer = page(&book, account, &mut self.buffer[..room.size]);
+        println!(self.rt; "g {} {}", refusal_of(&answer), answer.unwrap_or(0))
     }
-}
 
-// o: a carry-over of the list.
-fn carry(book: Book, session: Session, results: &mut [u8], answer: &mut [u64]) -> Called {
-    let list = session.list;
-    let carried = carry_first(book, list, session.listed, results);
-    let given = carried.answer;
-    let count = tell(answer, &[given.number() as u64]);
-    let next = carried.book;
-    Called {
-        book: next,
-        session: session.emptied(),
-        count: tell_bytes(answer, count, results),
+    fn save(&mut self, room: Room) -> io::Result<()> {
+        let book = *self.book();
+        let answer = save(&book, &mut self.buffer[..room.size]);
+        println!(self.rt; "w {} {}", refusal_of(&answer), answer.unwrap_or(0))
     }
-}
 
-// A load's refusal and record.
-fn load_numbers(given: LoadAnswer) -> [u64; 2] {
-    match given {
-        LoadAnswer::Accepted => [0, 0],
-        LoadAnswer::Refused { refusal, record } => [refusal.number() as u64, record as u64],
+    fn load(&mut self, room: Room) -> io::Result<()> {
+        let loaded = load(&self.buffer[..room.size]);
+        self.keep(loaded.book);
+        let (refusal, record) = match loaded.answer {
+            Ok(()) => (0, 0),
+            Err(fault) => (fault.refusal.into(), fault.record),
+        };
+        println!(self.rt; "l {refusal} {record}")
     }
-}
 
-// l: a load of the first bytes of the buffer.
-fn load_from(session: Session, size: u64, buffer: &[u8], answer: &mut [u64]) -> Called {
-    let n = first(buffer, size as usize);
-    let loaded = load(&buffer[..n]);
-    let given = loaded.answer;
-    let count = tell(answer, &load_numbers(given));
-    let next = loaded.book;
-    Called {
-        book: next,
-        session,
-        count,
+    fn open_run(&mut self, node: u8, day: u16, rate: u16) -> io::Result<()> {
+        let ran = open_run(*self.book(), node, day, rate);
+        self.keep(ran.book);
+        self.tell_run('r', ran.answer)
     }
-}
 
-// The calls that change the buffer or nothing.
-fn read_call(
-    book: Book,
-    letter: u8,
-    numbers: &[u64],
-    count: usize,
-    buffer: &mut [u8],
-    answer: &mut [u64],
-) -> usize {
-    let one = at(numbers, 0);
-    let two = at(numbers, 1);
-    let account = (one % 65536) as u16;
-    let node = (two % 256) as u8;
-    let serial = (at(numbers, 2) % 4294967296) as u32;
-    match letter {
-        b's' => state(book, account, two, answer),
-        b'q' => query(book, account, node, serial, answer),
-        b'g' => page_into(book, account, two, buffer, answer),
-        b'w' => save_into(book, one, buffer, answer),
-        b'x' => set(buffer, numbers, count, answer),
-        _ => show(buffer, one, two, answer),
+    fn step(&mut self) -> io::Result<()> {
+        let posted = step(*self.book());
+        self.keep(posted.book);
+        self.tell_posting('t', posted.answer)
     }
-}
 
-// An answer of one number.
-fn told(book: Book, session: Session, number: u64, answer: &mut [u64]) -> Called {
-    Called {
-        book,
-        session,
-        count: tell(answer, &[number]),
+    fn close_run(&mut self) -> io::Result<()> {
+        let ran = close_run(*self.book());
+        self.keep(ran.book);
+        self.tell_run('c', ran.answer)
     }
-}
 
-// Makes the call of a line that is understood.
-pub fn call(
-    book: Book,
-    session: Session,
-    letter: u8,
-    numbers: &[u64],
-    count: usize,
-    buffer: &mut [u8],
-    answer: &mut [u64],
-) -> Called {
-    let one = at(numbers, 0);
-    match letter {
-        b'p' => posted(book.post(entry(numbers)), session, answer),
-        b'r' | b't' | b'c' => run_call(book, session, letter, numbers, answer),
-        b'o' => {
-            let mut results = [255u8; PLACES];
-            let n = first(&results, one as usize);
-            carry(book, session, &mut results[..n], answer)
-        }
-        b'l' => load_from(session, one, buffer, answer),
-        b'b' => told(book, session.turned(one), one, answer),
-        b'e' => {
-            let next = session.extended(entry(numbers));
-            told(book, next, next.listed as u64, answer)
-        }
-        _ => Called {
-            book,
-            session,
-            count: read_call(book, letter, numbers, count, buffer, answer),
-        },
+    fn set(&mut self, change: &Change) -> io::Result<()> {
+        let bytes = change.bytes.as_slice();
+        self.buffer[change.from..change.from + bytes.len()].copy_from_slice(bytes);
+        println!(self.rt; "x {}", bytes.len())
+    }
+
+    fn show(&self, span: Span) -> io::Result<()> {
+        println!(self.rt;
+            "d{}",
+            Spaced(&self.buffer[span.from..span.from + span.count]),
+        )
     }
 }

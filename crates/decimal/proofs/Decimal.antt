@@ -8,11 +8,10 @@ use mathlib.Core.List.{List, [], ◌∷◌, ◌++◌, append_assoc, Memᴰ}
 use native.Mathlib.Nat.{pow-suc}
 use native.Mathlib.Omega.{arith}
 use lib.ListN.{length, take, drop, set, replicate, take-append-drop, length-append, length-drop, length-set, length-replicate, replicate-append-replicate}
-use lib.Seq.{drop_at, take_at, take-take, set_split, take-set-le, take_all, length-take-le}
+use lib.Seq.{drop_at, take_at, take-take, set_split, take-set-le, length-take-le}
 use lib.Dec.{ltb}
 use borrow.Author.Tests.{ltb-true, ltb-false, lt-ltb, le-ltb}
-use Rattle.decimal.specs.declared.Field.{Field}
-use Rattle.decimal.specs.Decimal.{space, last_digit, digits_in, digits, cents_of, dollars, right, line_columns, field_of, last_columns, value_after, DecimalText}
+use Rattle.decimal.specs.Decimal.{space, last_digit, digits_in, digits, cents_of, dollars, right, line_columns, last_columns, value_after, DecimalText}
 
 one : (fuel n : ℕ) → n < 10 → digits_in (suc fuel) n ≡ last_digit n ∷ []
 unfolding digits_in
@@ -106,6 +105,10 @@ field w t h l = (
       (drop_at (replicate (line_columns - w) space) _ (line_columns - w) (length-replicate (line_columns - w) space)),
 )
 
+-- the last columns of a line, where they have room for the text that it ends in
+pub last_right : (w : ℕ) (t : List ℕ) → length t ≤ w → w ≤ line_columns → last_columns w (right line_columns t) ≡ right w t
+last_right w t h l = (field w t h l).1
+
 before : (k : ℕ) (t : List ℕ) → right (length t + k) t ≡ replicate k space ++ t
 unfolding right
 before k t = let e : length t + k - length t ≡ k = omega arith in rw e refl
@@ -125,49 +128,30 @@ pub at_most_twenty_one : (c : ℕ) → c < 18446744073709551616 → length (doll
 unfolding dollars
 at_most_twenty_one c h = rw length-append (omega (arith, fewest 17 (c / 100) (omega arith)))
 
-pub field_length : (t : List ℕ) (f : Field) → f ≡ field_of t → f.length ≡ length t
-field_length t f e = ap (λ (g : Field). g.length) e
-
--- the last columns of a field that a text has room in
-pub last_columns_lem : (w : ℕ) (t : List ℕ) (f : Field) → f ≡ field_of t → length t ≤ w → w ≤ line_columns → last_columns w f.columns ≡ right w t
-last_columns_lem w t f e h l = rw e (field w t h l).1
-
--- so many of them more than the text has bytes
-pub text_columns : (k w : ℕ) (t : List ℕ) (f : Field) → f ≡ field_of t → w ≡ f.length + k → w ≤ line_columns → last_columns w f.columns ≡ replicate k space ++ t
-text_columns k w t f e h l =
-    let n : w ≡ length t + k = rw e at h in
-    last_columns_lem w t f e (omega arith) l ∙ (rw n (before k t))
-
--- the columns from a start on, as a part that is lent
-pub last_part : (columns : List ℕ) (w start : ℕ) → length columns ≡ line_columns → start ≡ line_columns - w →
-    take (line_columns - start) (drop start columns) ≡ last_columns w columns
-last_part columns w start h e = take_all (line_columns - start) (drop start columns) (omega (arith, length-drop start columns)) ∙ ap (λ s. drop s columns) e
-
--- the text of a field, as a part that is lent
-pub text_part : (t : List ℕ) (f : Field) → f ≡ field_of t → f.length ≤ line_columns →
-    (length f.columns ≡ line_columns) × (take (line_columns - (line_columns - f.length)) (drop (line_columns - f.length) f.columns) ≡ t)
-text_part t f e h =
-    let l : length t ≤ line_columns = rw e at h in
-    let n : length f.columns ≡ line_columns = rw e (field line_columns t l (omega arith)).0 in
-    (n, last_part f.columns f.length (line_columns - f.length) n refl ∙ text_columns 0 f.length t f e (omega arith) h)
-
 -- A number's digits are being written, from the last on, into columns of a line that are to end in a text: the digits of what is left of the
 -- number, and then the columns from `at` on, are the text, and the columns before `at` are spaces.
 pub record Left (text columns : List ℕ) (at rest : ℕ) : Type 0 where
+  pub room : length text ≤ line_columns
   pub inside : at ≤ line_columns
   pub filled : length columns ≡ line_columns
   pub front : take at columns ≡ replicate at space
   pub whole : digits rest ++ drop at columns ≡ text
 
 -- there is a column for the next digit
-pub left_room : (text columns : List ℕ) (at rest : ℕ) → length text ≤ line_columns → Left text columns at rest → 0 < at
-left_room text columns at rest h k = omega (arith, some_digits rest, simp (length-append, length-drop) at (ap length k.whole))
+pub left_room : {text columns : List ℕ} {at rest : ℕ} → Left text columns at rest → 0 < at
+left_room {text} {columns} {at} {rest} k =
+    omega (arith, some_digits rest, k.room, k.filled, simp (length-append, length-drop) at (ap length k.whole))
 
--- as the digits of a number of 64 bits and the columns after them are that text
-pub digit_room : (n end : ℕ) (columns shown : List ℕ) (at rest : ℕ) → n < 18446744073709551616 → 20 ≤ end → end ≤ line_columns →
-    length columns ≡ line_columns → Left (digits n ++ drop end columns) shown at rest → 0 < at
-digit_room n end columns shown at rest few low high all k =
-    left_room _ _ _ _ (rw (length-append, length-drop) (omega (arith, at_most_twenty n few))) k
+-- before the first: the number has 64 bits
+pub left_all : (n end : ℕ) (columns : List ℕ) → n < 18446744073709551616 → 20 ≤ end → end ≤ line_columns → length columns ≡ line_columns →
+    take end columns ≡ replicate end space → Left (digits n ++ drop end columns) columns end n
+left_all n end columns few low high all front = record {
+  room = rw (length-append, length-drop) (omega (arith, at_most_twenty n few));
+  inside = high;
+  filled = all;
+  front = front;
+  whole = refl;
+}
 
 drop-set : (columns : List ℕ) (at d : ℕ) → 0 < at → at ≤ length columns → drop (at - 1) (set columns (at - 1) d) ≡ d ∷ drop at columns
 drop-set columns at d z l =
@@ -180,25 +164,31 @@ take-set columns at d z h =
     (take_at (replicate (at - 1) space) (replicate 1 space) (at - 1) (length-replicate (at - 1) space))
 
 -- after a digit, where others are left
-pub left_next : (text columns : List ℕ) (at rest : ℕ) → 0 < at → (rest / 10 ≡ 0 → ⊥) → Left text columns at rest →
+pub left_next : {text columns : List ℕ} {at rest : ℕ} → (rest / 10 ≡ 0 → ⊥) → Left text columns at rest →
     Left text (set columns (at - 1) (last_digit rest)) (at - 1) (rest / 10)
-left_next text columns at rest z h k = record {
+left_next {text} {columns} {at} {rest} h k = let z = left_room k in record {
+  room = k.room;
   inside = omega (arith, k.inside);
   filled = simp length-set k.filled;
   front = take-set columns at (last_digit rest) z k.front;
   whole = rw (drop-set columns at (last_digit rest) z (omega arith), ← k.whole, more_digits rest h, append_assoc) refl;
 }
 
--- after the last
-pub left_end : (text columns : List ℕ) (at rest : ℕ) → 0 < at → rest / 10 ≡ 0 → Left text columns at rest →
-    ◌≡◌ {A = Field} (record { columns = set columns (at - 1) (last_digit rest); length = line_columns - (at - 1) }) (field_of text)
+-- after the last: the line ends in the text from there on
+pub record Ended (text columns : List ℕ) (start : ℕ) : Type 0 where
+  pub whole : drop start columns ≡ text
+  pub field : (start ≤ line_columns) × (length columns ≡ line_columns) × (columns ≡ right line_columns (drop start columns))
+
+pub left_end : {text columns : List ℕ} {at rest : ℕ} → rest / 10 ≡ 0 → Left text columns at rest →
+    Ended text (set columns (at - 1) (last_digit rest)) (at - 1)
 unfolding right
-left_end text columns at rest z h k =
+left_end {text} {columns} {at} {rest} h k =
+    let z = left_room k in
     let d = last_digit rest in
     let w : d ∷ drop at columns ≡ text = rw (one_digit rest h) at k.whole in
     let l : length text ≡ suc (length (drop at columns)) = sym (ap length w) in
     let a : line_columns - length text ≡ at - 1 = omega (arith, length-drop at columns, k.filled) in
-    let b : line_columns - (at - 1) ≡ length text = omega (arith, length-drop at columns, k.filled) in
-    let c : set columns (at - 1) d ≡ replicate (at - 1) space ++ text =
-    sym (take-append-drop (at - 1) (set columns (at - 1) d)) ∙ (rw (take-set columns at d z k.front, drop-set columns at d z (omega arith), w) refl) in
-    rw (a, b, c) refl
+    let e : drop (at - 1) (set columns (at - 1) d) ≡ text = drop-set columns at d z (omega arith) ∙ w in
+    let f : set columns (at - 1) d ≡ right line_columns text =
+    sym (take-append-drop (at - 1) (set columns (at - 1) d)) ∙ (rw (take-set columns at d z k.front, e, a) refl) in
+    record { whole = e; field = (omega (arith, k.inside), simp length-set k.filled, f ∙ ap (right line_columns) (sym e)) }

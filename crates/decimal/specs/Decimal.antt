@@ -3,7 +3,6 @@ use Rattle.std.specs.Prelude.{ℕ, zero, suc, ◌+◌, ◌*◌, ◌-◌, ◌/◌
 use Prim.Native.Char.{code}
 use Prim.Native.String.{String, [] as none, ◌∷◌ as ◌then◌}
 use mathlib.Core.List.{List, [], ◌∷◌, ◌++◌, Memᴰ}
-use Rattle.decimal.specs.declared.Field.{Field}
 
 -- the bytes of a text in ASCII
 abbrev pub ascii : String → List ℕ
@@ -47,10 +46,6 @@ right w t = replicate (w - length t) space ++ t
 -- the columns of a line
 abbrev pub line_columns : ℕ
 line_columns = 80
-
--- a text that ends in a line's last column, and its length
-abbrev pub field_of : List ℕ → Field
-field_of t = record { columns = right line_columns t; length = length t }
 
 -- the last so many columns of a line
 abbrev pub last_columns : ℕ → List ℕ → List ℕ

@@ -5,13 +5,11 @@ use mathlib.Core.Bool.{false, Bool, true, cond}
 use native.Mathlib.Omega.{arith}
 use lib.Dec.{eqb}
 use borrow.Author.Tests.{ne_eqb}
-use Rattle.entries.specs.Refusals.{refusal_number, refuse_if, Row, ◌⇒◌, check_rows}
+use Rattle.entries.specs.Refusals.{refusal_number, Row, ◌⇒◌, check_rows}
 use Rattle.entries.specs.declared.refusals.Refusal.{Refusal}
 use Rattle.entries.specs.declared.refusals.Refusal.TheVariants as no
-use Rattle.entries.specs.declared.refusals.Check.{Check}
-use Rattle.entries.specs.declared.refusals.Check.TheVariants as check
+use Rattle.std.specs.Prelude.{Ok, Err}
 use mathlib.Core.List.{List, [], ◌∷◌}
-use Rattle.entries.specs.declared.refusals.Check.TheVariants.{Passed, Refused}
 
 pub refusal_above : (n : Refusal) → 0 < refusal_number n
 refusal_above no.UnknownKind = omega arith
@@ -48,35 +46,20 @@ refusal_above no.NoDaysServed = omega arith
 pub is_refusal : (n : Refusal) → eqb (refusal_number n) 0 ≡ false
 is_refusal n = ne_eqb (refusal_number n) 0 (λ z. omega (arith, refusal_above n))
 
-unfoldable pub check_number : Check → ℕ
-check_number check.Passed = 0
-check_number (check.Refused n) = refusal_number n
-
-pub refused_stays : (m n : Refusal) (broken : Bool) → refuse_if (Refused m) broken n ≡ Refused m
-unfolding refuse_if
-refused_stays m n true = refl
-refused_stays m n false = refl
-
-passed_rule : (c : Check) (b : Bool) (n : Refusal) → refuse_if c b n ≡ Passed → (c ≡ Passed) × (b ≡ false)
-unfolding refuse_if
-passed_rule c false n e = (e, refl)
-passed_rule Passed true n e = let z : ◌≡◌ {A = ℕ} 0 1 = cc in absurd (omega arith)
-passed_rule (Refused m) true n e = let z : ◌≡◌ {A = ℕ} 0 1 = cc in absurd (omega arith)
-
-first_passed : (c : Check) (rows : List Row) → check_rows c rows ≡ Passed → c ≡ Passed
-first_passed c [] e = e
-first_passed c (r ∷ rs) e = (passed_rule c r.broken r.refusal (first_passed (refuse_if c r.broken r.refusal) rs e)).0
-
 -- the row of a refusal's number; one that is not broken where the table has none
 abbrev pub row_of : ℕ → List Row → Row
 row_of n [] = false ⇒ no.UnknownKind
 row_of n (r ∷ rs) = cond (eqb (refusal_number r.refusal) n) r (row_of n rs)
 
-pub unbroken : (n : ℕ) (c : Check) (rows : List Row) → check_rows c rows ≡ Passed → (row_of n rows).broken ≡ false
-unbroken n c [] e = refl
-unbroken n c (r ∷ rs) e =
-    pick (eqb (refusal_number r.refusal) n) (passed_rule c r.broken r.refusal (first_passed (refuse_if c r.broken r.refusal) rs e)).1 (unbroken n (refuse_if c r.broken r.refusal) rs e)
+pub unbroken : (n : ℕ) (rows : List Row) → check_rows rows ≡ Ok tt → (row_of n rows).broken ≡ false
+unbroken n [] e = refl
+unbroken n (r ∷ rs) e = go r.broken refl (unbroken n rs) e
   where
     pick : (t : Bool) → r.broken ≡ false → (row_of n rs).broken ≡ false → (cond t r (row_of n rs)).broken ≡ false
     pick true p q = p
     pick false p q = q
+
+    go : (t : Bool) → r.broken ≡ t → (check_rows rs ≡ Ok tt → (row_of n rs).broken ≡ false) → cond t (Err r.refusal) (check_rows rs) ≡ Ok tt →
+        (row_of n (r ∷ rs)).broken ≡ false
+    go true p rest e = let z : ◌≡◌ {A = ℕ} 0 1 = cc in absurd (omega arith)
+    go false p rest e = pick (eqb (refusal_number r.refusal) n) p (rest e)

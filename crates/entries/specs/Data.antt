@@ -8,6 +8,7 @@ use Rattle.measures.specs.declared.Metres.{Metres}
 use Rattle.entries.specs.declared.raw.Raw.{Raw}
 use Rattle.entries.specs.declared.kinds.Kind.{Kind}
 use Rattle.entries.specs.declared.kinds.Kind.TheVariants as kind
+use Rattle.entries.specs.declared.data.Name.{Name}
 use Rattle.entries.specs.declared.data.Entry.{Entry}
 use Rattle.entries.specs.declared.data.Particulars.{Particulars}
 use Rattle.entries.specs.declared.data.Data.{Data}
@@ -28,13 +29,20 @@ unfoldable pub with_of : Entry → Data → Entry
 with_of e d =
     record { node = e.node; account = e.account; day = e.day; serial = e.serial; next = e.next; «data» = d }
 
--- whether an entry carries a pair of node and serial
-abbrev pub carries : ℕ → ℕ → Entry → Bool
-carries node serial e = eqb e.node node && eqb e.serial serial
+abbrev pub name_of : ℕ → ℕ → Name
+name_of node serial = record { node = node; serial = serial }
+
+-- the pair of named node and named serial
+abbrev pub named_by : Raw → Name
+named_by r = name_of r.named_node r.named_serial
+
+-- whether an entry carries a name as its node and serial
+abbrev pub carries : Name → Entry → Bool
+carries n e = eqb e.node n.node && eqb e.serial n.serial
 
 -- the pair of named node and named serial means the entry that carries them
 abbrev pub points_at : Raw → Entry → Bool
-points_at r e = carries r.named_node r.named_serial e
+points_at r e = carries (named_by r) e
 
 -- what the rules and the queries read of a bill, a payment or a late charge: the kind, the standing amount, and whether it was corrected
 abbrev pub standing_particulars : Kind → Cents → Bool → Particulars
@@ -113,16 +121,16 @@ unfoldable pub case_of : {A : Type 0} → Data → FromContribution A → FromBi
 case_of Unused f g h i j x = x kind.Unknown
 case_of (Contribution phases built added closed amount held to_arrears paid_out retained) f g h i j x =
     f phases built added closed amount held to_arrears paid_out retained
-case_of (AddedCustomer node serial shared phases) f g h i j x = x kind.AddedCustomer
+case_of (AddedCustomer named shared phases) f g h i j x = x kind.AddedCustomer
 case_of (Bill charge period served standing corrected) f g h i j x = g charge period served standing corrected
 case_of (Payment amount standing corrected) f g h i j x = h amount standing corrected
 case_of (Deposit amount rate) f g h i j x = x kind.Deposit
 case_of DepositReturn f g h i j x = x kind.DepositReturn
-case_of (Expiry node serial) f g h i j x = x kind.Expiry
-case_of (Correction node serial amount) f g h i j x = x kind.Correction
+case_of (Expiry named) f g h i j x = x kind.Expiry
+case_of (Correction named amount) f g h i j x = x kind.Correction
 case_of (Guarantee closed reduced amount held) f g h i j x = i closed reduced amount held
-case_of (Reduction node serial) f g h i j x = x kind.Reduction
-case_of (Retention node serial) f g h i j x = x kind.Retention
+case_of (Reduction named) f g h i j x = x kind.Reduction
+case_of (Retention named) f g h i j x = x kind.Retention
 case_of (LateCharge amount) f g h i j x = j amount
 
 -- f of a contribution's fields; of every other entry x

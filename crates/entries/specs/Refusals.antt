@@ -1,9 +1,7 @@
 -- The refusals of every call, and checks in order.
-use Rattle.std.specs.Prelude.{ℕ, Bool, true, false, List, [], ◌∷◌}
+use Rattle.std.specs.Prelude.{ℕ, Bool, cond, List, [], ◌∷◌, Result, Ok, Err}
 use Rattle.entries.specs.declared.refusals.Refusal.{Refusal}
 use Rattle.entries.specs.declared.refusals.Refusal.TheVariants as no
-use Rattle.entries.specs.declared.refusals.Check.{Check}
-use Rattle.entries.specs.declared.refusals.Check.TheVariants.{Passed, Refused}
 
 -- the documents' number of a refusal
 abbrev pub refusal_number : Refusal → ℕ
@@ -38,14 +36,18 @@ refusal_number no.RunState = 28
 refusal_number no.SaveInRun = 29
 refusal_number no.NoDaysServed = 30
 
-abbrev pub else_refused : Check → Refusal → Check
-else_refused Passed n = Refused n
-else_refused (Refused m) n = Refused m
+-- nothing, or the refusal
+abbrev pub Check : Type 0
+Check = Result (Unit {0}) Refusal
 
--- after the checks so far, a rule that is broken or not
-unfoldable pub refuse_if : Check → Bool → Refusal → Check
-refuse_if c true n = else_refused c n
-refuse_if c false n = c
+-- the refusal's number; 0 where nothing is refused
+unfoldable pub check_number : Check → ℕ
+check_number (Ok x) = 0
+check_number (Err n) = refusal_number n
+
+-- a rule that is broken or not
+unfoldable pub refuse_if : Bool → Refusal → Check
+refuse_if broken n = cond broken (Err n) (Ok tt)
 
 -- a row of a table of checks: where the test is true, the refusal
 pub record Row : Type 0 where
@@ -57,11 +59,11 @@ abbrev pub ◌⇒◌ : Bool → Refusal → Row
 b ⇒ n = record { broken = b; refusal = n }
 
 -- the refusal of the first broken rule of a table
-abbrev pub check_rows : Check → List Row → Check
-check_rows c [] = c
-check_rows c (r ∷ rs) = check_rows (refuse_if c r.broken r.refusal) rs
+abbrev pub check_rows : List Row → Check
+check_rows [] = Ok tt
+check_rows (r ∷ rs) = cond r.broken (Err r.refusal) (check_rows rs)
 
 -- after a check: what a refusal gives, or what follows where nothing is refused
 unfoldable pub decided_of : {A : Type 0} → Check → (Refusal → A) → A → A
-decided_of (Refused n) refused passed = refused n
-decided_of Passed refused passed = passed
+decided_of (Err n) refused passed = refused n
+decided_of (Ok x) refused passed = passed

@@ -1,13 +1,21 @@
 // An entry as the book keeps it: common fields, and the data of its kind.
-ghost use Rattle.std.specs.Prelude.{◌≡◌};
-ghost use Rattle.entries.specs.Data.{no_entry, standing_if, other_particulars, standing_particulars, contribution_particulars, guarantee_particulars, one_more, particulars_of, refunded_of, expired_of, restated_of, reduced_of, retained_of, with_of, carries};
+ghost use Rattle.std.specs.Prelude.{◌≡◌, true};
+ghost use Rattle.entries.specs.Data.{no_entry, standing_if, other_particulars, standing_particulars, one_more, particulars_of, refunded_of, expired_of, restated_of, reduced_of, retained_of, with_of, carries};
 
-use crate::kinds::{Kind, both};
+use crate::kinds::Kind;
 use measures::{Cents, Day, Metres};
+
+// The pair by which one entry names another: the node that wrote it, and its serial there.
+#[derive(Clone, Copy, Debug, PartialEq, Eq)]
+pub struct Name {
+    pub node: u8,
+    pub serial: u32,
+}
 
 // What was posted and what became of it, by kind. The case is the kind.
 #[derive(Clone, Copy)]
 pub enum Data {
+    // Of a place of the book's array that has no entry yet.
     Unused,
     // The short fields come first, which makes an entry 72 bytes and not 80.
     Contribution {
@@ -22,8 +30,7 @@ pub enum Data {
         retained: Cents,
     },
     AddedCustomer {
-        named_node: u8,
-        named_serial: u32,
+        named: Name,
         shared: Metres,
         phases: u8,
     },
@@ -44,11 +51,10 @@ pub enum Data {
         rate: u16,
     },
     DepositReturn,
-    // The named node and serial, here and in a reduction and a retention.
-    Expiry(u8, u32),
+    // The named entry, here and in a reduction and a retention.
+    Expiry(Name),
     Correction {
-        named_node: u8,
-        named_serial: u32,
+        named: Name,
         amount: Cents,
     },
     Guarantee {
@@ -58,8 +64,8 @@ pub enum Data {
         amount: Cents,
         held: Cents,
     },
-    Reduction(u8, u32),
-    Retention(u8, u32),
+    Reduction(Name),
+    Retention(Name),
     LateCharge(Cents),
 }
 
@@ -70,8 +76,8 @@ pub struct Entry {
     pub day: Day,
     pub serial: u32,
     pub data: Data,
-    // The number of the account's previous entry, 0 where there is none. It comes last: where an account's entries are neighbours, a walk
-    // then finds it in the cache line that it read for the entry before.
+    // The number of the account's previous entry, 0 where there is none: as the image has it, and in two bytes, not an Option's four. It
+    // comes last: where an account's entries are neighbours, a walk then finds it in the cache line that it read for the entry before.
     pub next: u16,
 }
 
@@ -93,11 +99,29 @@ pub struct Particulars {
 }
 
 impl Particulars {
+    // Of no entry: every figure zero or false.
+    const NONE: Particulars = Particulars {
+        kind: Kind::Unknown,
+        amount: Cents(0),
+        built: Metres(0),
+        phases: 0,
+        held: Cents(0),
+        added: 0,
+        closed: false,
+        standing: Cents(0),
+        corrected: false,
+        guarantee_held: Cents(0),
+        reduced: Day(0),
+    };
+
     // What the rules read of an entry that they read no figure of.
     fn other(kind: Kind) -> Particulars
         ensures { result ≡ other_particulars kind }
     {
-        Particulars::standing(kind, Cents(0), false)
+        Particulars {
+            kind,
+            ..Particulars::NONE
+        }
     }
 
     // What they read of a bill or a payment, and of a late charge, which stands at its amount.
@@ -106,61 +130,9 @@ impl Particulars {
     {
         Particulars {
             kind,
-            amount: Cents(0),
-            built: Metres(0),
-            phases: 0,
-            held: Cents(0),
-            added: 0,
-            closed: false,
             standing,
             corrected,
-            guarantee_held: Cents(0),
-            reduced: Day(0),
-        }
-    }
-
-    // What the rules read of a contribution.
-    fn contribution(
-        amount: Cents,
-        built: Metres,
-        phases: u8,
-        held: Cents,
-        added: u16,
-        closed: bool,
-    ) -> Particulars
-        ensures { result ≡ contribution_particulars amount built phases held added closed }
-    {
-        Particulars {
-            kind: Kind::Contribution,
-            amount,
-            built,
-            phases,
-            held,
-            added,
-            closed,
-            standing: Cents(0),
-            corrected: false,
-            guarantee_held: Cents(0),
-            reduced: Day(0),
-        }
-    }
-
-    // What the rules read of a guarantee.
-    fn guarantee(held: Cents, reduced: Day, closed: bool) -> Particulars
-        ensures { result ≡ guarantee_particulars held reduced closed }
-    {
-        Particulars {
-            kind: Kind::Guarantee,
-            amount: Cents(0),
-            built: Metres(0),
-            phases: 0,
-            held: Cents(0),
-            added: 0,
-            closed,
-            standing: Cents(0),
-            corrected: false,
-            guarantee_held: held,
-            reduced,
+            ..Particulars::NONE
         }
     }
 
@@ -177,7 +149,15 @@ impl Particulars {
 pub fn one_more(n: u16) -> u16
     ensures { result ≡ one_more n }
 {
-    if n < 65535 { n + 1 } else { 65535 }
+    n.saturating_add(1)
+}
+
+// The new amount stands. It is not corrected again (16).
+fn restate(standing: &mut Cents, corrected: &mut bool, amount: Cents)
+    ensures { (standing.new ≡ amount) × (corrected.new ≡ true) }
+{
+    *standing = amount;
+    *corrected = true;
 }
 
 impl Data {
@@ -194,7 +174,16 @@ impl Data {
                 added,
                 closed,
                 ..
-            } => Particulars::contribution(amount, built, phases, held, added, closed),
+            } => Particulars {
+                kind: Kind::Contribution,
+                amount,
+                built,
+                phases,
+                held,
+                added,
+                closed,
+                ..Particulars::NONE
+            },
             Data::Bill {
                 standing,
                 corrected,
@@ -210,155 +199,108 @@ impl Data {
                 reduced,
                 held,
                 ..
-            } => Particulars::guarantee(held, reduced, closed),
+            } => Particulars {
+                kind: Kind::Guarantee,
+                closed,
+                guarantee_held: held,
+                reduced,
+                ..Particulars::NONE
+            },
             Data::LateCharge(amount) => Particulars::standing(Kind::LateCharge, amount, false),
             Data::AddedCustomer { .. } => Particulars::other(Kind::AddedCustomer),
             Data::Deposit { .. } => Particulars::other(Kind::Deposit),
             Data::DepositReturn => Particulars::other(Kind::DepositReturn),
-            Data::Expiry(_, _) => Particulars::other(Kind::Expiry),
+            Data::Expiry(_) => Particulars::other(Kind::Expiry),
             Data::Correction { .. } => Particulars::other(Kind::Correction),
-            Data::Reduction(_, _) => Particulars::other(Kind::Reduction),
-            Data::Retention(_, _) => Particulars::other(Kind::Retention),
+            Data::Reduction(_) => Particulars::other(Kind::Reduction),
+            Data::Retention(_) => Particulars::other(Kind::Retention),
             Data::Unused => Particulars::other(Kind::Unknown),
         }
     }
 
     // A contribution after a refund, of which a part settled arrears and the rest was paid out.
     #[tactic(auto, unfolding(crate::specs::Data::case_of, crate::specs::Data::refunded_of))]
-    pub fn refunded(self, refund: Cents, settled: Cents, rest: Cents) -> Data
+    pub fn refunded(mut self, refund: Cents, settled: Cents, rest: Cents) -> Data
         ensures { result ≡ refunded_of self refund settled rest }
     {
-        match self {
-            Data::Contribution {
-                amount,
-                built,
-                phases,
-                held,
-                to_arrears,
-                paid_out,
-                retained,
-                added,
-                closed,
-            } => Data::Contribution {
-                amount,
-                built,
-                phases,
-                held: held.minus(refund),
-                to_arrears: to_arrears.plus(settled),
-                paid_out: paid_out.plus(rest),
-                retained,
-                added: one_more(added),
-                closed,
-            },
-            _ => self,
+        if let Data::Contribution {
+            held,
+            to_arrears,
+            paid_out,
+            added,
+            ..
+        } = &mut self
+        {
+            *held = held.minus(refund);
+            *to_arrears = to_arrears.plus(settled);
+            *paid_out = paid_out.plus(rest);
+            *added = one_more(*added);
         }
+        self
     }
 
     // A contribution after its expiry: what was held is retained, and it is closed.
     #[tactic(auto, unfolding(crate::specs::Data::case_of, crate::specs::Data::expired_of))]
-    pub fn expired(self) -> Data
+    pub fn expired(mut self) -> Data
         ensures { result ≡ expired_of self }
     {
-        match self {
-            Data::Contribution {
-                amount,
-                built,
-                phases,
-                held,
-                to_arrears,
-                paid_out,
-                retained: _,
-                added,
-                closed: _,
-            } => Data::Contribution {
-                amount,
-                built,
-                phases,
-                held: Cents(0),
-                to_arrears,
-                paid_out,
-                retained: held,
-                added,
-                closed: true,
-            },
-            _ => self,
+        if let Data::Contribution {
+            held,
+            retained,
+            closed,
+            ..
+        } = &mut self
+        {
+            *retained = *held;
+            *held = Cents(0);
+            *closed = true;
         }
+        self
     }
 
     // A bill or payment after its correction.
     #[tactic(auto, unfolding(crate::specs::Data::case_of, crate::specs::Data::restated_of))]
-    pub fn restated(self, amount: Cents) -> Data
+    pub fn restated(mut self, amount: Cents) -> Data
         ensures { result ≡ restated_of self amount }
     {
-        // It is not corrected again (16).
-        let corrected = true;
-        match self {
+        match &mut self {
             Data::Bill {
-                charge,
-                period,
-                served,
-                standing: _,
-                corrected: _,
-            } => Data::Bill {
-                charge,
-                period,
-                served,
-                standing: amount,
+                standing,
                 corrected,
-            },
+                ..
+            } => restate(standing, corrected, amount),
             Data::Payment {
-                amount: posted,
-                standing: _,
-                corrected: _,
-            } => Data::Payment {
-                amount: posted,
-                standing: amount,
+                standing,
                 corrected,
-            },
-            _ => self,
+                ..
+            } => restate(standing, corrected, amount),
+            _ => {}
         }
+        self
     }
 
     // A guarantee after a reduction on a day, by which a part of what was held is given back.
     #[tactic(auto, unfolding(crate::specs::Data::case_of, crate::specs::Data::reduced_of))]
-    pub fn reduced(self, back: Cents, day: Day) -> Data
+    pub fn reduced(mut self, back: Cents, day: Day) -> Data
         ensures { result ≡ reduced_of self back day }
     {
-        match self {
-            Data::Guarantee {
-                closed,
-                reduced: _,
-                amount,
-                held,
-            } => Data::Guarantee {
-                closed,
-                reduced: day,
-                amount,
-                held: held.minus(back),
-            },
-            _ => self,
+        if let Data::Guarantee { reduced, held, .. } = &mut self {
+            *held = held.minus(back);
+            *reduced = day;
         }
+        self
     }
 
     // A guarantee after its retention: nothing is held, and it is closed.
     #[tactic(auto, unfolding(crate::specs::Data::case_of, crate::specs::Data::retained_of))]
-    pub fn retained(self) -> Data
+    pub fn retained(mut self) -> Data
         ensures { result ≡ retained_of self }
     {
-        match self {
-            Data::Guarantee {
-                closed: _,
-                reduced,
-                amount,
-                held: _,
-            } => Data::Guarantee {
-                closed: true,
-                reduced,
-                amount,
-                held: Cents(0),
-            },
-            _ => self,
+        if let Data::Guarantee { closed, held, .. } = &mut self {
+            *closed = true;
+            *held = Cents(0);
         }
+        self
     }
 }
 
@@ -377,11 +319,11 @@ impl Entry {
         }
     }
 
-    // Whether it carries a pair of node and serial.
-    pub fn carries(self, node: u8, serial: u32) -> bool
-        ensures { result ≡ carries node serial self }
+    // Whether it is the one of a name.
+    pub fn carries(self, name: Name) -> bool
+        ensures { result ≡ carries name self }
     {
-        both(self.node == node, self.serial == serial)
+        self.node == name.node && self.serial == name.serial
     }
 
     // The entry with other data of its kind.
@@ -389,14 +331,6 @@ impl Entry {
     pub fn with(self, data: Data) -> Entry
         ensures { result ≡ with_of self «data» }
     {
-        let day = self.day;
-        Entry {
-            node: self.node,
-            account: self.account,
-            day,
-            serial: self.serial,
-            next: self.next,
-            data,
-        }
+        Entry { data, ..self }
     }
 }

@@ -1,24 +1,24 @@
 // The kinds of entries, and the ranges of each kind's fields.
-ghost use Rattle.std.specs.Prelude.{◌≡◌, ◌&&◌, ◌||◌};
-ghost use Rattle.entries.specs.Kinds.{kind_of, number_of, same_of, counts_with_bills, names_guarantee_of, names_of, misnames_of};
-ghost use Rattle.entries.specs.Ranges.{row, limits_of};
+ghost use Rattle.std.specs.Prelude.{◌≡◌};
+ghost use Rattle.entries.specs.Kinds.{kind_of, number_of, counts_with_bills, names_guarantee_of, names_of, misnames_of};
+ghost use Rattle.entries.specs.Ranges.{limits_of};
 
-// The documents' kinds 1 to 12 in their order, after a case for every other number.
-#[derive(Clone, Copy)]
+// The documents' kinds 1 to 12 in their order, after a case for every other number, so that each number has a kind: 1 refuses that case.
+#[derive(Clone, Copy, Debug, PartialEq, Eq)]
 pub enum Kind {
-    Unknown,
-    Contribution,
-    AddedCustomer,
-    Bill,
-    Payment,
-    Deposit,
-    DepositReturn,
-    Expiry,
-    Correction,
-    Guarantee,
-    Reduction,
-    Retention,
-    LateCharge,
+    Unknown = 0,
+    Contribution = 1,
+    AddedCustomer = 2,
+    Bill = 3,
+    Payment = 4,
+    Deposit = 5,
+    DepositReturn = 6,
+    Expiry = 7,
+    Correction = 8,
+    Guarantee = 9,
+    Reduction = 10,
+    Retention = 11,
+    LateCharge = 12,
 }
 
 // The ends of the fields' ranges. Where `named` holds, the named node is 1 or 2 and the named serial 1 or more; else both are 0.
@@ -34,56 +34,37 @@ pub struct Limits {
     pub b_high: u16,
 }
 
-pub fn both(p: bool, q: bool) -> bool
-    ensures { result ≡ (p && q) }
-{
-    if p { q } else { false }
-}
-
-pub fn either(p: bool, q: bool) -> bool
-    ensures { result ≡ (p || q) }
-{
-    if p { true } else { q }
-}
-
 impl Limits {
-    // A row of the table of ranges.
-    fn row(
-        amount_low: u32,
-        amount_high: u32,
-        named: bool,
-        a_low: u16,
-        a_high: u16,
-        phases: bool,
-        b_high: u16,
-    ) -> Limits
-        ensures { result ≡ row amount_low amount_high named a_low a_high phases b_high }
-    {
-        Limits {
-            amount_low,
-            amount_high,
-            named,
-            a_low,
-            a_high,
-            phases,
-            b_high,
-        }
-    }
+    // Of an entry that has none of the fields.
+    const NONE: Limits = Limits {
+        amount_low: 0,
+        amount_high: 0,
+        named: false,
+        a_low: 0,
+        a_high: 0,
+        phases: false,
+        b_high: 0,
+    };
+
+    // Of one with an amount of 1 or more.
+    const AMOUNT: Limits = Limits {
+        amount_low: 1,
+        amount_high: Kind::AMOUNT_MOST,
+        ..Limits::NONE
+    };
+
+    // Of one that names another.
+    const NAMED: Limits = Limits {
+        named: true,
+        ..Limits::NONE
+    };
 }
 
-impl Kind {
-    pub const AMOUNT_MOST: u32 = 100000000;
+impl From<u8> for Kind {
+    ghost from_gives = { λ number kind. kind ≡ kind_of number };
 
-    pub const RATE_MOST: u16 = 2000;
-
-    // The days in a bill's period.
-    pub const BILL_PERIOD_MOST: u16 = 62;
-
-    // The kind of a number.
     #[tactic(auto, unfolding(crate::specs::Kinds::kind_of))]
-    pub fn of(number: u8) -> Kind
-        ensures { result ≡ kind_of number }
-    {
+    fn from(number: u8) -> Kind {
         match number {
             1 => Kind::Contribution,
             2 => Kind::AddedCustomer,
@@ -100,58 +81,45 @@ impl Kind {
             _ => Kind::Unknown,
         }
     }
+}
 
-    pub fn number(self) -> u8
-        ensures { result ≡ number_of self }
-    {
-        match self {
-            Kind::Unknown => 0,
-            Kind::Contribution => 1,
-            Kind::AddedCustomer => 2,
-            Kind::Bill => 3,
-            Kind::Payment => 4,
-            Kind::Deposit => 5,
-            Kind::DepositReturn => 6,
-            Kind::Expiry => 7,
-            Kind::Correction => 8,
-            Kind::Guarantee => 9,
-            Kind::Reduction => 10,
-            Kind::Retention => 11,
-            Kind::LateCharge => 12,
-        }
-    }
+// The documents' number.
+impl From<Kind> for u8 {
+    ghost from_gives = { λ kind number. number ≡ number_of kind };
 
-    pub fn is(self, other: Kind) -> bool
-        ensures { result ≡ same_of self other }
-    {
-        self.number() == other.number()
+    fn from(kind: Kind) -> u8 {
+        kind as u8
     }
+}
+
+impl Kind {
+    pub const AMOUNT_MOST: u32 = 100000000;
+
+    pub const RATE_MOST: u16 = 2000;
+
+    // The days in a bill's period.
+    pub const BILL_PERIOD_MOST: u16 = 62;
 
     // Whether an entry of this kind counts with bills: a bill or a late charge.
     pub fn counts_with_bills(self) -> bool
         ensures { result ≡ counts_with_bills self }
     {
-        either(self.is(Kind::Bill), self.is(Kind::LateCharge))
+        self == Kind::Bill || self == Kind::LateCharge
     }
 
     // Whether an entry of this kind names another entry.
     pub fn names(self) -> bool
         ensures { result ≡ names_of self }
     {
-        either(
-            self.names_guarantee(),
-            either(
-                self.is(Kind::AddedCustomer),
-                either(self.is(Kind::Expiry), self.is(Kind::Correction)),
-            ),
-        )
+        self.names_guarantee()
+            || matches!(self, Kind::AddedCustomer | Kind::Expiry | Kind::Correction)
     }
 
     // Whether it names a guarantee.
     fn names_guarantee(self) -> bool
         ensures { result ≡ names_guarantee_of self }
     {
-        either(self.is(Kind::Reduction), self.is(Kind::Retention))
+        matches!(self, Kind::Reduction | Kind::Retention)
     }
 
     // Of a kind that names an entry: whether it may not name one of the other kind.
@@ -159,13 +127,11 @@ impl Kind {
     pub fn misnames(self, other: Kind) -> bool
         ensures { result ≡ misnames_of self other }
     {
-        if self.is(Kind::Correction) {
-            return !either(other.is(Kind::Bill), other.is(Kind::Payment));
+        match self {
+            Kind::Correction => !matches!(other, Kind::Bill | Kind::Payment),
+            Kind::Reduction | Kind::Retention => other != Kind::Guarantee,
+            _ => other != Kind::Contribution,
         }
-        if self.names_guarantee() {
-            return !other.is(Kind::Guarantee);
-        }
-        !other.is(Kind::Contribution)
     }
 
     // The ranges of the fields, where a is the entry's field a.
@@ -174,27 +140,39 @@ impl Kind {
         ensures { result ≡ limits_of self a }
     {
         match self {
-            Kind::Contribution => Limits::row(1, Kind::AMOUNT_MOST, false, 1, 65535, true, 0),
-            Kind::AddedCustomer => Limits::row(0, 0, true, 1, 65535, true, 0),
-            Kind::Bill => Limits::row(
-                1,
-                Kind::AMOUNT_MOST,
-                false,
-                1,
-                Kind::BILL_PERIOD_MOST,
-                false,
-                a,
-            ),
-            Kind::Payment => Limits::row(1, Kind::AMOUNT_MOST, false, 0, 0, false, 0),
-            Kind::Deposit => Limits::row(1, Kind::AMOUNT_MOST, false, 0, Kind::RATE_MOST, false, 0),
-            Kind::DepositReturn => Limits::row(0, 0, false, 0, 0, false, 0),
-            Kind::Expiry => Limits::row(0, 0, true, 0, 0, false, 0),
-            Kind::Correction => Limits::row(0, Kind::AMOUNT_MOST, true, 0, 0, false, 0),
-            Kind::Guarantee => Limits::row(1, Kind::AMOUNT_MOST, false, 0, 0, false, 0),
-            Kind::Reduction => Limits::row(0, 0, true, 0, 0, false, 0),
-            Kind::Retention => Limits::row(0, 0, true, 0, 0, false, 0),
-            Kind::LateCharge => Limits::row(0, Kind::AMOUNT_MOST, false, 0, 0, false, 0),
-            Kind::Unknown => Limits::row(0, 0, false, 0, 0, false, 0),
+            Kind::Contribution => Limits {
+                a_low: 1,
+                a_high: u16::MAX,
+                phases: true,
+                ..Limits::AMOUNT
+            },
+            Kind::AddedCustomer => Limits {
+                a_low: 1,
+                a_high: u16::MAX,
+                phases: true,
+                ..Limits::NAMED
+            },
+            Kind::Bill => Limits {
+                a_low: 1,
+                a_high: Kind::BILL_PERIOD_MOST,
+                b_high: a,
+                ..Limits::AMOUNT
+            },
+            Kind::Payment | Kind::Guarantee => Limits::AMOUNT,
+            Kind::Deposit => Limits {
+                a_high: Kind::RATE_MOST,
+                ..Limits::AMOUNT
+            },
+            Kind::Expiry | Kind::Reduction | Kind::Retention => Limits::NAMED,
+            Kind::Correction => Limits {
+                amount_high: Kind::AMOUNT_MOST,
+                ..Limits::NAMED
+            },
+            Kind::LateCharge => Limits {
+                amount_high: Kind::AMOUNT_MOST,
+                ..Limits::NONE
+            },
+            Kind::DepositReturn | Kind::Unknown => Limits::NONE,
         }
     }
 }

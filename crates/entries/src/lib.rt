@@ -8,7 +8,7 @@ mod raw;
 mod refusals;
 
 pub use arrivals::Arrival;
-pub use data::{Data, Entry, Particulars, one_more};
-pub use kinds::{Kind, Limits, both, either};
+pub use data::{Data, Entry, Name, Particulars, one_more};
+pub use kinds::{Kind, Limits};
 pub use raw::{Raw, within};
-pub use refusals::{Check, Refusal};
+pub use refusals::{Refusal, refuse_if};

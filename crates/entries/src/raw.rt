@@ -3,13 +3,13 @@ ghost use Rattle.std.specs.Prelude.{◌≡◌};
 ghost use Rattle.measures.specs.Cents.{cents};
 ghost use Rattle.measures.specs.Days.{day};
 ghost use Rattle.entries.specs.Ranges.{between, named_fits, b_fits, in_range_of};
-ghost use Rattle.entries.specs.Data.{entry_of, points_at};
+ghost use Rattle.entries.specs.Data.{entry_of, named_by, points_at};
 
-use crate::data::{Data, Entry};
-use crate::kinds::{Kind, both, either};
+use crate::data::{Data, Entry, Name};
+use crate::kinds::Kind;
 use measures::{Cents, Day};
 
-#[derive(Clone, Copy)]
+#[derive(Clone, Copy, Debug, Default, PartialEq, Eq)]
 pub struct Raw {
     pub kind: u8,
     pub node: u8,
@@ -28,14 +28,14 @@ pub struct Raw {
 pub fn within(n: u32, low: u32, high: u32) -> bool
     ensures { result ≡ between n low high }
 {
-    both(low <= n, n <= high)
+    low <= n && n <= high
 }
 
 impl Raw {
     pub fn cents(self) -> Cents
         ensures { result ≡ cents self.amount }
     {
-        Cents(self.amount as u64)
+        Cents(u64::from(self.amount))
     }
 
     // The named pair is 1 or 2 and 1 or more where the kind names an entry, and else 0 and 0.
@@ -44,9 +44,9 @@ impl Raw {
         ensures { result ≡ named_fits self named }
     {
         if named {
-            both(within(self.named_node as u32, 1, 2), 1 <= self.named_serial)
+            within(u32::from(self.named_node), 1, 2) && 1 <= self.named_serial
         } else {
-            both(self.named_node == 0, self.named_serial == 0)
+            self.named_node == 0 && self.named_serial == 0
         }
     }
 
@@ -56,9 +56,9 @@ impl Raw {
         ensures { result ≡ b_fits self phases high }
     {
         if phases {
-            either(self.b == 1, self.b == 3)
+            self.b == 1 || self.b == 3
         } else {
-            self.b as u16 <= high
+            u16::from(self.b) <= high
         }
     }
 
@@ -68,18 +68,31 @@ impl Raw {
         ensures { result ≡ in_range_of self kind }
     {
         let limits = kind.limits(self.a);
-        let amount = within(self.amount, limits.amount_low, limits.amount_high);
-        let named = self.named_fits(limits.named);
-        let a = within(self.a as u32, limits.a_low as u32, limits.a_high as u32);
-        let b = self.b_fits(limits.phases, limits.b_high);
-        both(both(amount, named), both(a, b))
+        within(self.amount, limits.amount_low, limits.amount_high)
+            && self.named_fits(limits.named)
+            && within(
+                u32::from(self.a),
+                u32::from(limits.a_low),
+                u32::from(limits.a_high),
+            )
+            && self.b_fits(limits.phases, limits.b_high)
     }
 
-    // Whether the entry names this one, by its node and serial.
+    // The entry that it names.
+    pub fn named(self) -> Name
+        ensures { result ≡ named_by self }
+    {
+        Name {
+            node: self.named_node,
+            serial: self.named_serial,
+        }
+    }
+
+    // Whether the entry names this one.
     pub fn points_at(self, entry: Entry) -> bool
         ensures { result ≡ points_at self entry }
     {
-        entry.carries(self.named_node, self.named_serial)
+        entry.carries(self.named())
     }
 
     // The entry as the book keeps it.

@@ -11,37 +11,32 @@ use borrow.Author.Tests.{eqb-true, eqb-false, eq-eqb, le-leb}
 use Rattle.entries.specs.Kinds.{kind_of, same_of, names_of}
 use Rattle.entries.specs.Ranges.{between}
 use Rattle.entries.specs.Refusals as checks
-use Rattle.entries.specs.Refusals.{refusal_number, decided_of}
-use Rattle.entries.specs.Data.{no_entry, entry_of, with_of}
+use Rattle.entries.specs.Refusals.{refusal_number, Check, check_number, decided_of}
+use Rattle.entries.specs.Data.{no_entry, entry_of, with_of, points_at}
 use Rattle.entries.specs.declared.arrivals.Arrival.{Arrival}
 use Rattle.entries.specs.declared.raw.Raw.{Raw}
 use Rattle.entries.specs.declared.kinds.Kind.{Kind}
 use Rattle.entries.specs.declared.kinds.Kind.TheVariants as kind
 use Rattle.entries.specs.declared.data.Entry.{Entry}
-use Rattle.entries.specs.declared.data.Data.{Data}
-use Rattle.entries.specs.declared.data.Data.TheVariants as data'
 use Rattle.entries.specs.declared.refusals.Refusal.{Refusal}
-use Rattle.entries.specs.declared.refusals.Check.{Check}
-use Rattle.entries.specs.declared.refusals.Check.TheVariants as check
+use Rattle.std.specs.Prelude.{Option, None, Some, Ok, Err}
 use Rattle.rules.specs.Accounts.{no_account, with_newest_of}
 use Rattle.rules.specs.Answers.{posting_reply_of}
-use Rattle.changes.specs.Changes.{answer_of}
+use Rattle.changes.specs.Changes.{Decision}
 use Rattle.rules.specs.declared.accounts.Account.{Account}
-use Rattle.changes.specs.declared.Found.{Found}
-use Rattle.changes.specs.declared.Found.TheVariants.{At, Nothing}
+use Rattle.changes.specs.declared.Link.{Link}
 use Rattle.changes.specs.declared.Change.{Change}
-use Rattle.changes.specs.declared.Decision.{Decision}
-use Rattle.changes.specs.declared.Decision.TheVariants.{Refused, Accepted}
 use Rattle.book.specs.Fresh.{fresh_book}
 use Rattle.book.specs.Serials.{last_of, after_of}
-use Rattle.book.specs.Chain as chains
-use Rattle.book.specs.Chain.{slot_of}
+use Rattle.book.specs.Chain.{slot_of, link_of}
+use Rattle.book.specs.declared.Found.TheVariants.{At}
+use Rattle.book.proofs.ChainLaws.{found_entry}
 use Rattle.book.specs.Refusals.{entry_rows}
-use Rattle.book.specs.Posting.{account_at, lookup_of, paid_of, entries_rewritten, stored_of, decided_book, decision_of, enter_of}
+use Rattle.book.specs.Posting.{account_at, lookup_of, paid_of, entries_rewritten, stored_of, decided_book, decision_of, answer_of, enter_of}
 use Rattle.book.specs.declared.Book.{Book}
 use Rattle.book.specs.declared.Serials.{Serials}
 use Rattle.queries.specs.Chain.{walk_at}
-use Rattle.entries.proofs.RefusalsLaws.{refusal_above, check_number}
+use Rattle.entries.proofs.RefusalsLaws.{refusal_above}
 use Rattle.history.specs.History.{History, accounts, entries, last_serial, naming, Target, absent, present, find, named, filter, sum, posted_fate, fate_after, fate, paid_by, guarantee_open, target_entry, target_fate, Balance, move_of, moved, move_by, balance, Amounts, amounts_by, amounts, judge_by, judge, joined, offer, replied_by, replied_of, added_up, to_arrears, refunds_paid}
 use Rattle.history.specs.Laws.{Valid, empty, joins}
 use Rattle.history.specs.Images.{newest_of}
@@ -52,7 +47,7 @@ use Rattle.history.proofs.Conserve.{divide}
 use Rattle.history.proofs.Open.{open_after, open_own, open_other}
 use Rattle.history.proofs.Bound.{in_ranges, added_small, standing_small, bounded}
 use Rattle.history.proofs.Tables.{rows, effect, one_table, check_same}
-use Rattle.history.proofs.Search.{place_of, walk, found_at, lookup_same, paid_same, state_same, last_same}
+use Rattle.history.proofs.Search.{walk, found_at, lookup_same, paid_same, state_same, last_same}
 use Rattle.history.proofs.Effects.{change_by, own_effect, naming_effect}
 use Rattle.history.proofs.Stored.{slot_at, rows_past, rows_miss, rows_hit}
 
@@ -64,7 +59,7 @@ module _ (way : Arrival) {b : Book} {h : History} (w : Agrees b h) (v : Valid h)
   abbrev table : List checks.Row
   table = entry_rows r k way b.count (last_of b.last r.node) ++ rows r k (account_at b r.account) (names_of k) (lookup_of b r)
 
-  pub refusal_same : check_number (checks.check_rows check.Passed table) ≡ judge_by way h r
+  pub refusal_same : check_number (checks.check_rows table) ≡ judge_by way h r
   unfolding judge_by
   refusal_same =
       check_same way h r k b.count (last_of b.last r.node) (rows r k (account_at b r.account) (names_of k) (lookup_of b r))
@@ -73,35 +68,35 @@ module _ (way : Arrival) {b : Book} {h : History} (w : Agrees b h) (v : Valid h)
       (λ t. last_same w v r t)
       (λ t d. state_same w v way r t d)
 
-decided_passed : (c : Check) (o : Decision) → check_number c ≡ 0 → decided_of c Refused o ≡ o
+decided_passed : (c : Check) (o : Decision) → check_number c ≡ 0 → decided_of c Err o ≡ o
 unfolding decided_of check_number
-decided_passed check.Passed o e = refl
-decided_passed (check.Refused n) o e = absurd (omega (arith, refusal_above n))
+decided_passed (Ok x) o e = refl
+decided_passed (Err n) o e = absurd (omega (arith, refusal_above n))
 
-decided_refused : (c : Check) (o : Decision) (n : ℕ) → check_number c ≡ suc n → (m : Refusal) × (decided_of c Refused o ≡ Refused m) × (refusal_number m ≡ suc n)
+decided_refused : (c : Check) (o : Decision) (n : ℕ) → check_number c ≡ suc n → (m : Refusal) × (decided_of c Err o ≡ Err m) × (refusal_number m ≡ suc n)
 unfolding decided_of check_number
-decided_refused check.Passed o n e = absurd (omega arith)
-decided_refused (check.Refused m) o n e = (m, refl, e)
+decided_refused (Ok x) o n e = absurd (omega arith)
+decided_refused (Err m) o n e = (m, refl, e)
 
 module _ {b : Book} {h : History} (w : Agrees b h) (v : Valid h) (r : Raw) where
   abbrev does : Decision
   does = effect r (kind_of r.kind) (account_at b r.account) (paid_of b r) (names_of (kind_of r.kind)) (lookup_of b r)
 
-  whole : (way : Arrival) → decision_of way b r ≡ decided_of (checks.check_rows check.Passed (table way w v r)) Refused does
+  whole : (way : Arrival) → decision_of way b r ≡ decided_of (checks.check_rows (table way w v r)) Err does
   unfolding decision_of
   whole way = one_table r way b.count (last_of b.last r.node) (account_at b r.account) (lookup_of b r) (paid_of b r)
 
-  decision_refused : (way : Arrival) (n : ℕ) → judge_by way h r ≡ suc n → (m : Refusal) × (decision_of way b r ≡ Refused m) × (refusal_number m ≡ suc n)
+  decision_refused : (way : Arrival) (n : ℕ) → judge_by way h r ≡ suc n → (m : Refusal) × (decision_of way b r ≡ Err m) × (refusal_number m ≡ suc n)
   decision_refused way n j = let d = decided_refused _ does n (refusal_same way w v r ∙ j) in (d.0, whole way ∙ d.1, d.2)
 
   decision_accepted : (way : Arrival) → judge_by way h r ≡ 0 → decision_of way b r ≡ does
   decision_accepted way j = whole way ∙ decided_passed _ does (refusal_same way w v r ∙ j)
 
 -- THE EFFECT OF AN ACCEPTED ENTRY
--- the data of the named entry after it
-abbrev new_named : History → Raw → Target → Data
-new_named h r absent = data'.Unused
-new_named h r (present i e) = data_in (r ∷ h) e
+-- the named entry after it
+abbrev new_named : Book → History → Raw → Target → Option Link
+new_named b h r absent = None
+new_named b h r (present i e) = Some (link_of i (with_of (get_or b.entries i no_entry) (data_in (r ∷ h) e)))
 
 module _ {b : Book} {h : History} (w : Agrees b h) (v : Valid h) (r : Raw) (j : judge h r ≡ 0) where
   abbrev bal : Balance
@@ -118,8 +113,12 @@ module _ {b : Book} {h : History} (w : Agrees b h) (v : Valid h) (r : Raw) (j : 
   account_at_lem = let p = accepts h r j in w.account r.account p.account_low p.account_high
 
   -- the entry that it names, as the book keeps it
-  lookup_at : naming (kind_of r.kind) ≡ true → (i : ℕ) (e : Raw) → find h r ≡ present i e → (g : History) × (lookup_of b r ≡ chains.found i (kept_entry h g e))
+  lookup_at : naming (kind_of r.kind) ≡ true → (i : ℕ) (e : Raw) → find h r ≡ present i e → (g : History) × (lookup_of b r ≡ At (link_of i (kept_entry h g e)))
   lookup_at k i e f = found_at (lookup_same w v r known) i e (named_at_lem h r k i e f)
+
+  entry_at : (n : naming (kind_of r.kind) ≡ true) (i : ℕ) (e : Raw) (f : find h r ≡ present i e) → kept_entry h (lookup_at n i e f).0 e ≡ get_or b.entries i no_entry
+  unfolding lookup_of
+  entry_at n i e f = found_entry b.entries (points_at r) entries _ (lookup_at n i e f).1
 
   data_new : data_in (r ∷ h) r ≡ kept_data (kind_of r.kind) r (posted_fate r) 0 0
   data_new = rw (fate_new v r j, given_new kind.AddedCustomer refl (λ (y : Amounts). y.settled) r v j, given_new kind.AddedCustomer refl (λ (y : Amounts). y.paid_out) r v j) refl
@@ -140,23 +139,23 @@ module _ {b : Book} {h : History} (w : Agrees b h) (v : Valid h) (r : Raw) (j : 
   opened = open_after (kind_of r.kind) (guarantee_open h r.account)
 
   abbrev the_change : Change
-  the_change = change_by (move_by h r bal) bal opened last (data_in (r ∷ h) r) (place_of (named h r)) (new_named h r (named h r))
+  the_change = change_by (move_by h r bal) bal opened last (data_in (r ∷ h) r) (new_named b h r (named h r))
 
-  effect_by : Role h r → does w v r ≡ Accepted the_change
-  unfolding entry_of move_by
+  effect_by : Role h r → does w v r ≡ Ok the_change
+  unfolding entry_of with_of move_by
   effect_by (alone n) =
       let p = accepts h r j in
       rw (account_at_lem, named_none h r n, n, data_new)
-      (ap Accepted (own_effect r bal (guarantee_open h r.account) last (length h) (bounded v r.account) p.room _ _ _ _ (kind_of r.kind) n p.kind_known p.ranges p.day))
+      (ap Ok (own_effect r bal (guarantee_open h r.account) last (length h) (bounded v r.account) p.room _ _ _ _ (kind_of r.kind) n p.kind_known p.ranges p.day))
   effect_by (upon n i e f s) =
       let p = accepts h r j in
       let member = (hit v r i e f).member in
       let old = in_ranges v e member in
-      rw (account_at_lem, n, (lookup_at n i e f).1, named_at_lem h r n i e f, data_new, data_after n i e f, paid_same w v r known)
-      (ap Accepted (naming_effect r bal (guarantee_open h r.account) last (length h) (bounded v r.account) p.room e (paid_by h r) (fate h e) i (to_arrears h e) (refunds_paid h e) (kind_of r.kind) (kind_of e.kind) n s old.amount
+      rw (account_at_lem, n, (lookup_at n i e f).1, named_at_lem h r n i e f, ← entry_at n i e f, data_new, data_after n i e f, paid_same w v r known)
+      (ap Ok (naming_effect r bal (guarantee_open h r.account) last (length h) (bounded v r.account) p.room e (paid_by h r) (fate h e) i (to_arrears h e) (refunds_paid h e) (kept_entry h (lookup_at n i e f).0 e) (kind_of r.kind) (kind_of e.kind) n s old.amount
       p.ranges.amount p.ranges.a (omega (arith, added_small h e, p.room)) (standing_small v e old) (λ c. omega (arith, rw c at (divide v e member).0, old.amount))))
 
-  pub decision : (way : Arrival) → judge_by way h r ≡ 0 → decision_of way b r ≡ Accepted the_change
+  pub decision : (way : Arrival) → judge_by way h r ≡ 0 → decision_of way b r ≡ Ok the_change
   decision way e = decision_accepted w v r way e ∙ effect_by (role h r j)
 
   -- the entries of the next book
@@ -167,7 +166,7 @@ module _ {b : Book} {h : History} (w : Agrees b h) (v : Valid h) (r : Raw) (j : 
   room = omega (arith, (accepts h r j).room, w.entries_long)
 
   abbrev es₂ : List Entry
-  es₂ = entries_rewritten b.entries (place_of (named h r)) (new_named h r (named h r)) es₁
+  es₂ = entries_rewritten (new_named b h r (named h r)) es₁
 
   rows_stored : Role h r → Placed (r ∷ h) es₂ (r ∷ h)
   rows_stored (alone k) =
@@ -205,9 +204,9 @@ module _ {b : Book} {h : History} (w : Agrees b h) (v : Valid h) (r : Raw) (j : 
   unfolding stored_of
   entries_after = rw (account_at_lem, w.counted) refl
 
-  long_rewritten : (es : List Entry) (f : Found) (d : Data) (next : List Entry) → length (entries_rewritten es f d next) ≡ length next
-  long_rewritten es Nothing d next = refl
-  long_rewritten es (At i) d next = length-set next i (with_of (get_or es i no_entry) d)
+  long_rewritten : (l : Option Link) (es : List Entry) → length (entries_rewritten l es) ≡ length es
+  long_rewritten None es = refl
+  long_rewritten (Some l) es = length-set es l.place l.entry
 
   -- its accounts
   account_new : kept_account (moved (move_by h r bal) bal) opened (length h + 1) ≡ account_in (r ∷ h) r.account

@@ -25,7 +25,7 @@ use Rattle.queries.specs.declared.statements.StatementReply.{StatementReply}
 use Rattle.pages.specs.Rows.{page_rows, AllLines}
 use Rattle.pages.specs.Pages.{page_of}
 use Rattle.saves.specs.Saves.{image_of}
-use Rattle.replays.specs.Loaded.{accepted_load}
+use Rattle.loads.specs.Loaded.{accepted_load}
 use Rattle.loads.specs.Loads.{load_of}
 use Rattle.history.specs.History.{History, accounts, entries, answers_along, last_serial, points, fate, total, amounts, entries_of, settled_by, paid_out_by, to_arrears, refunds_paid, customers, paid_by}
 use Rattle.history.specs.Laws.{In, newest, older, AccountSums, sums_of, Refunds, Reduces, Once, Each, HasContribution}

@@ -9,12 +9,12 @@ use borrow.Author.Tests.{leb-true, leb-false}
 use Rattle.measures.specs.Cents.{cents, most}
 use Rattle.entries.specs.Ranges.{amount_most}
 use Rattle.entries.specs.Kinds.{same_of}
-use Rattle.entries.specs.Data.{metres, case_of, particulars_of, refunded_of, expired_of, restated_of, reduced_of, retained_of}
+use Rattle.entries.specs.declared.data.Entry.{Entry}
+use Rattle.entries.specs.Data.{metres, with_of, case_of, particulars_of, refunded_of, expired_of, restated_of, reduced_of, retained_of}
 use Rattle.entries.specs.declared.raw.Raw.{Raw}
 use Rattle.entries.specs.declared.kinds.Kind.{Kind}
 use Rattle.entries.specs.declared.kinds.Kind.TheVariants as kind
 use Rattle.entries.specs.declared.data.Data.{Data}
-use Rattle.entries.specs.declared.data.Data.TheVariants as data'
 use Rattle.rules.specs.Moves.{settles, leaves, covers, owes}
 use Rattle.rules.specs.Formulas.{billed, interest, given_back_of}
 use Rattle.rules.specs.Accounts.{credited_of, plus_credit_of, charged_of, with_deposit_of, with_guarantee_of}
@@ -22,9 +22,10 @@ use Rattle.rules.specs.Answers.{amounts_of}
 use Rattle.changes.specs.Changes.{change_of, contribution_of, added_customer_of, bill_of, payment_of, deposit_of, deposit_return_of, expiry_of, correction_of, guarantee_of, late_charge_of, reduction_of, retention_of, own_change_of, naming_change_of}
 use Rattle.rules.specs.declared.accounts.Credited.{Credited}
 use Rattle.rules.specs.declared.answers.Amounts as four'
-use Rattle.changes.specs.declared.Found.{Found}
-use Rattle.changes.specs.declared.Found.TheVariants.{At, Nothing}
+use Rattle.changes.specs.declared.Link.{Link}
 use Rattle.changes.specs.declared.Change.{Change}
+use Rattle.book.specs.Chain.{link_of}
+use Rattle.std.specs.Prelude.{Option, None, Some}
 use Rattle.rules.proofs.FormulasLaws.{plain}
 use Rattle.history.specs.History.{naming, suits, Fate, posted_fate, refund_by, fate_after, Balance, Move, restates, charges, credits, move_of, moved, Amounts, amounts_by, last_day, entries}
 use Rattle.history.specs.Agreement.{kept_account, kept_data}
@@ -37,8 +38,8 @@ abbrev pub kept_amounts : Amounts → four'.Amounts
 kept_amounts x = amounts_of (cents x.settled) (cents x.paid_out) (cents x.retained) (cents x.interest)
 
 -- the change that a move makes
-abbrev pub change_by : Move → Balance → Bool → ℕ → Data → Found → Data → Change
-change_by m b guarantee newest d names named = change_of (kept_account (moved m b) guarantee newest) d names named (kept_amounts (amounts_by m b))
+abbrev pub change_by : Move → Balance → Bool → ℕ → Data → Option Link → Change
+change_by m b guarantee newest d named = change_of (kept_account (moved m b) guarantee newest) d named (kept_amounts (amounts_by m b))
 
 fits : (n : ℕ) → n ≤ most → min n most ≡ n
 fits n l = min-eq_left l
@@ -86,7 +87,7 @@ module _ (b : Balance) (guarantee : Bool) (newest : ℕ) where
 module _ (r : Raw) (b : Balance) (guarantee : Bool) (newest n : ℕ) (w : Small n b) (room : n < entries) where
   -- of an entry that names nothing
   pub own_effect : (l : Kind) (e : Raw) (sum : ℕ) (f : Fate) (k : Kind) → naming k ≡ false → same_of k kind.Unknown ≡ false → FieldsInRange r k → r.day ≤ last_day →
-      own_change_of r k (kept_account b guarantee newest) ≡ change_by (move_of k l r b e sum f) b (open_after k guarantee) newest (kept_data k r (posted_as k r) 0 0) Nothing data'.Unused
+      own_change_of r k (kept_account b guarantee newest) ≡ change_by (move_of k l r b e sum f) b (open_after k guarantee) newest (kept_data k r (posted_as k r) 0 0) None
   unfolding own_change_of contribution_of bill_of payment_of deposit_of deposit_return_of guarantee_of late_charge_of credited_of with_deposit_of with_guarantee_of
   own_effect l e sum f kind.Unknown a u s d = absurd (true≢false u)
   own_effect l e sum f kind.Contribution a u s d = refl
@@ -107,28 +108,29 @@ module _ (r : Raw) (b : Balance) (guarantee : Bool) (newest n : ℕ) (w : Small 
   own_effect l e sum f kind.Retention a u s d = absurd (true≢false a)
   own_effect l e sum f kind.LateCharge a u s d = rw (charged_plain b guarantee newest r.amount (omega (arith, s.amount))) (simp zeros)
 
-  -- of one that names e, at place i, of which `settled` and `paid` are refunded; `sum` is that of the payments that a reduction counts
-  module _ (e : Raw) (sum : ℕ) (g : Fate) (i settled paid : ℕ) where
+  -- of one that names e, which the book keeps as x at place i, of which `settled` and `paid` are refunded; `sum` is that of the payments that a
+  -- reduction counts
+  module _ (e : Raw) (sum : ℕ) (g : Fate) (i settled paid : ℕ) (x : Entry) where
     abbrev pub NamingEffect : Kind → Kind → Type 0
     NamingEffect k l =
-        let x = amounts_by (move_of k l r b e sum g) b in
+        let y = amounts_by (move_of k l r b e sum g) b in
         let t = same_of k kind.AddedCustomer in
-        naming_change_of r k (kept_account b guarantee newest) (cents (cond (same_of k kind.Reduction) sum 0)) i (kept_data l e g settled paid) ≡
-        change_by (move_of k l r b e sum g) b (open_after k guarantee) newest (kept_data k r (posted_fate r) 0 0) (At i)
-        (kept_data l e (fate_after k r e sum g) (cond t x.settled 0 + settled) (cond t x.paid_out 0 + paid))
+        naming_change_of r k (kept_account b guarantee newest) (cents (cond (same_of k kind.Reduction) sum 0)) (link_of i (with_of x (kept_data l e g settled paid))) ≡
+        change_by (move_of k l r b e sum g) b (open_after k guarantee) newest (kept_data k r (posted_fate r) 0 0)
+        (Some (link_of i (with_of x (kept_data l e (fate_after k r e sum g) (cond t y.settled 0 + settled) (cond t y.paid_out 0 + paid)))))
 
     added_effect : e.amount ≤ amount_most → r.a ≤ 65535 → g.added < 65535 → settled + paid + g.held ≤ amount_most → NamingEffect kind.AddedCustomer kind.Contribution
-    unfolding naming_change_of added_customer_of credited_of case_of refunded_of particulars_of
+    unfolding naming_change_of added_customer_of credited_of case_of refunded_of particulars_of with_of
     added_effect m a c p =
-        let x = refund_by r e g in
+        let y = refund_by r e g in
         let one_more : min (g.added + 1) 65535 ≡ g.added + 1 = min-eq_left (omega arith) in
-        let to : min (settled + settles x b.arrears) most ≡ settles x b.arrears + settled = omega arith in
-        let out : min (paid + leaves x b.arrears) most ≡ leaves x b.arrears + paid = omega arith in
+        let to : min (settled + settles y b.arrears) most ≡ settles y b.arrears + settled = omega arith in
+        let out : min (paid + leaves y b.arrears) most ≡ leaves y b.arrears + paid = omega arith in
         rw (plain.added_customer (particulars_of (kept_data kind.Contribution e g settled paid)) (metres r.a) m a, to, out, one_more) refl
 
     pub naming_effect : (k l : Kind) → naming k ≡ true → suits k l ≡ true → e.amount ≤ amount_most → r.amount ≤ amount_most → r.a ≤ 65535 → g.added < 65535 → g.standing ≤ large →
         (l ≡ kind.Contribution → settled + paid + g.held ≤ amount_most) → NamingEffect k l
-    unfolding naming_change_of expiry_of correction_of reduction_of retention_of case_of expired_of restated_of reduced_of retained_of particulars_of credited_of given_back_of with_guarantee_of
+    unfolding naming_change_of expiry_of correction_of reduction_of retention_of case_of expired_of restated_of reduced_of retained_of particulars_of credited_of given_back_of with_guarantee_of with_of
     naming_effect k l n u m o a c s =
         let bill = restated b guarantee newest g.standing r.amount (omega arith) (omega arith) in
         let payment = restated b guarantee newest r.amount g.standing (omega arith) (omega arith) in

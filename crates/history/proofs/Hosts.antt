@@ -18,7 +18,7 @@ use Rattle.book.specs.declared.Book.{Book}
 use Rattle.book.specs.declared.Run.{Run}
 use Rattle.book.proofs.Posting.{posts_run}
 use Rattle.runs.specs.Runs.{without_run}
-use Rattle.replays.specs.Loaded.{accepted_load}
+use Rattle.loads.specs.Loaded.{accepted_load}
 use Rattle.carry.specs.Carry.{carry_refusal_of}
 use Rattle.entries.specs.Order.{first_refusal}
 use Rattle.image_post.specs.Postings.{PostingExit, read_entry, post_refusal, post_into, post_image}

@@ -13,7 +13,7 @@ use Rattle.entries.proofs.Ranges.{both_true}
 use Rattle.codec.specs.Bytes.{Bytes}
 use Rattle.codec.specs.Records.{encode_record, decode_record}
 use Rattle.codec.specs.Headers.{header_of}
-use Rattle.replays.specs.Loaded.{LoadedReply}
+use Rattle.loads.specs.Loaded.{LoadedReply}
 use Rattle.loads.specs.Loads.{load_of}
 use Rattle.history.specs.History.{History, last_serial, points, names, find, named, filter, sum, fate, move_by, balance, amounts, judge_by, offer, replied_of, added_up}
 use Rattle.history.specs.Laws.{Valid, empty, joins}

@@ -8,13 +8,13 @@ use lib.ListN.{length, drop}
 use lib.Dec.{eqb, ltb}
 use Rattle.entries.specs.Kinds.{number_of, kind_of, same_of}
 use Rattle.entries.specs.Ranges.{between}
-use Rattle.entries.specs.Refusals.{refusal_number, refuse_if, decided_of}
+use Rattle.std.specs.Prelude.{Ok, Err}
+use Rattle.entries.specs.Refusals.{refusal_number, decided_of}
 use Rattle.entries.specs.Data.{entry_of}
 use Rattle.entries.specs.declared.raw.Raw.{Raw}
 use Rattle.entries.specs.declared.kinds.Kind.{Kind}
 use Rattle.entries.specs.declared.kinds.Kind.TheVariants as kind
 use Rattle.entries.specs.declared.refusals.Refusal.TheVariants as no
-use Rattle.entries.specs.declared.refusals.Check.TheVariants as check
 use Rattle.entries.proofs.Ranges.{inside}
 use Rattle.entries.proofs.KindsLaws.{every_kind, number_again}
 use Rattle.book.specs.declared.Book.{Book}
@@ -63,11 +63,11 @@ module _ {b : Book} {h : History} (w : Kept b h) where
   text_same a l m = rw (agreement.chain b h w a l m, statement_same w a 0, lines_same h w.valid a) refl
 
   pub page_same : (a : ℕ) (buffer : List ℕ) → page_of b a buffer ≡ page_in h a buffer
-  unfolding page_of page_in decided_of refuse_if
+  unfolding page_of page_in decided_of
   page_same a buffer = go (between a 1 accounts) refl (ltb (length buffer) page_length)
     where
       go : (t : Bool) → between a 1 accounts ≡ t → (u : Bool) →
-          decided_of (refuse_if (refuse_if check.Passed (not t) no.UnknownAccount) u no.PageBufferShort) (λ n. page_exit (refusal_number n) 0 buffer)
+          decided_of (cond (not t) (Err no.UnknownAccount) (cond u (Err no.PageBufferShort) (Ok tt))) (λ n. page_exit (refusal_number n) 0 buffer)
           (page_exit 0 page_length (page_text_of b a ++ drop page_length buffer)) ≡ page_by (cond (not t) 3 (cond u 23 0)) h a buffer
       go true e true = refl
       go true e false =

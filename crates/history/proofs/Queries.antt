@@ -10,18 +10,18 @@ use lib.Dec.{eqb}
 use Rattle.measures.specs.Cents.{most}
 use Rattle.entries.specs.Kinds.{kind_of, same_of, counts_with_bills}
 use Rattle.entries.specs.Ranges.{amount_most, between}
-use Rattle.entries.specs.Refusals.{refuse_if, decided_of}
-use Rattle.entries.specs.Data.{entry_of, case_of, carries}
+use Rattle.std.specs.Prelude.{Ok, Err}
+use Rattle.entries.specs.Refusals.{decided_of}
+use Rattle.entries.specs.Data.{entry_of, case_of, name_of, carries}
 use Rattle.entries.specs.declared.raw.Raw.{Raw}
 use Rattle.entries.specs.declared.kinds.Kind.{Kind}
 use Rattle.entries.specs.declared.kinds.Kind.TheVariants as kind
 use Rattle.entries.specs.declared.data.Entry.{Entry}
 use Rattle.entries.specs.declared.data.Particulars.{Particulars}
 use Rattle.entries.specs.declared.refusals.Refusal.TheVariants as no
-use Rattle.entries.specs.declared.refusals.Check.TheVariants as check
 use Rattle.entries.proofs.Ranges.{inside}
 use Rattle.entries.proofs.KindsLaws.{every_kind}
-use Rattle.book.specs.Chain as books
+use Rattle.book.specs.declared.Found.{Found}
 use Rattle.book.specs.Chain.{sought_in}
 use Rattle.book.specs.Posting.{account_at}
 use Rattle.book.specs.declared.Book.{Book}
@@ -29,8 +29,6 @@ use Rattle.queries.specs.Chain.{walk_at, entries_in, chain_at, total_of, standin
 use Rattle.queries.specs.Chain as chains
 use Rattle.queries.specs.Statements.{statement_reply_of, given_of, statement_of}
 use Rattle.queries.specs.Contributions.{contribution_reply_of, contribution_figures_of, contribution_query_of, known_of}
-use Rattle.queries.specs.declared.statements.StatementAnswer.TheVariants as statement
-use Rattle.queries.specs.declared.contributions.ContributionAnswer.TheVariants as contribution
 use Rattle.history.specs.History.{History, accounts, Target, find, fate, target_entry, pointer_to, filter, entries_of, Reading, sum, total, standing_amount, billed_amount, held_amount, to_arrears, refunds_paid}
 use Rattle.history.specs.Agreement.{kept_entry, Kept, kept_link, kept_walk}
 use Rattle.history.specs.Queries.{statement_by, statement_in, contribution_by, contribution_in}
@@ -129,17 +127,17 @@ module _ {b : Book} {h : History} (w : Kept b h) where
       rw (agreement.chain b h w a l m, w.agrees.account a l m, held_fits a, billed_fits a n, paid_fits a n, reads_length (chain_reads h h a)) refl
 
   pub statement_same : (a n : ℕ) → statement_of b a n ≡ statement_in h a n
-  unfolding statement_of statement_in decided_of refuse_if statement_reply_of
+  unfolding statement_of statement_in decided_of statement_reply_of
   statement_same a n = go (between a 1 accounts) refl
     where
       go : (t : Bool) → between a 1 accounts ≡ t →
-          decided_of (refuse_if check.Passed (not t) no.UnknownAccount) (λ n. statement_reply_of (statement.Refused n)) (given_of (account_at b a) (chain_at b a) n) ≡ statement_by (cond (not t) 3 0) h a n
+          decided_of (cond (not t) (Err no.UnknownAccount) (Ok tt)) (λ n. statement_reply_of (Err n)) (given_of (account_at b a) (chain_at b a) n) ≡ statement_by (cond (not t) 3 0) h a n
       go true e = let i = inside a 1 accounts e in given_same a n i.0 i.1
       go false e = refl
 
 -- CONTRIBUTION QUERY
 module _ (all : History) where
-  known : {x : books.Sought} {s : Target} → Finds all x s → known_of x ≡ contribution_by (cond (not (same_of (kind_of (target_entry s).kind) kind.Contribution)) 8 0) all (target_entry s)
+  known : {x : Found} {s : Target} → Finds all x s → known_of x ≡ contribution_by (cond (not (same_of (kind_of (target_entry s).kind) kind.Contribution)) 8 0) all (target_entry s)
   unfolding known_of case_of contribution_figures_of contribution_reply_of kind_of entry_of
   known neither = refl
   known (both g {e = e}) =
@@ -151,12 +149,12 @@ module _ (all : History) where
 
 module _ {b : Book} {h : History} (w : Kept b h) where
   pub contribution_same : (a node serial : ℕ) → contribution_query_of b a node serial ≡ contribution_in h a node serial
-  unfolding contribution_query_of contribution_in decided_of refuse_if contribution_reply_of
+  unfolding contribution_query_of contribution_in decided_of contribution_reply_of
   contribution_same a node serial = go (between node 1 2) (between a 1 accounts) refl
     where
       go : (t u : Bool) → between a 1 accounts ≡ u →
-          decided_of (refuse_if (refuse_if check.Passed (not t) no.UnknownNode) (not u) no.UnknownAccount)
-          (λ n. contribution_reply_of (contribution.Refused n)) (known_of (sought_in (carries node serial) (walk_at b a))) ≡
+          decided_of (cond (not t) (Err no.UnknownNode) (cond (not u) (Err no.UnknownAccount) (Ok tt)))
+          (λ n. contribution_reply_of (Err n)) (known_of (sought_in (carries (name_of node serial)) (walk_at b a))) ≡
           contribution_by
           (cond (not t) 2 (cond (not u) 3 (cond (not (same_of (kind_of (target_entry (find h (pointer_to a node serial))).kind) kind.Contribution)) 8 0)))
           h (target_entry (find h (pointer_to a node serial)))

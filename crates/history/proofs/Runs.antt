@@ -13,14 +13,13 @@ use Rattle.measures.specs.Cents.{cents}
 use Rattle.measures.specs.declared.Cents.{Cents}
 use Rattle.entries.specs.Kinds.{kind_of}
 use Rattle.entries.specs.Ranges.{amount_most, between, limits_of, named_fits, b_fits, in_range_of}
-use Rattle.entries.specs.Refusals.{refusal_number, refuse_if, decided_of}
+use Rattle.std.specs.Prelude.{Ok, Err}
+use Rattle.entries.specs.Refusals.{refusal_number, decided_of}
 use Rattle.entries.specs.declared.arrivals.Arrival.{Arrival}
 use Rattle.entries.specs.declared.arrivals.Arrival.TheVariants.{Recorded}
 use Rattle.entries.specs.declared.raw.Raw.{Raw}
 use Rattle.entries.specs.declared.refusals.Refusal.TheVariants as no
-use Rattle.entries.specs.declared.refusals.Check.TheVariants as check
 use Rattle.entries.proofs.Ranges.{inside}
-use Rattle.entries.proofs.RefusalsLaws.{refused_stays}
 use Rattle.rules.specs.Accounts.{no_account}
 use Rattle.rules.specs.Answers.{posting_reply_of}
 use Rattle.rules.specs.Formulas.{late_amount}
@@ -248,7 +247,7 @@ module _ {b : Book} {s : State} (w : KeptState b s) (node day rate : ℕ) where
   abbrev Same : Bool → Bool → Bool → Bool → Type 0
   Same t u v x =
       let reply : RanReply =
-      decided_of (refuse_if (refuse_if (refuse_if (refuse_if check.Passed t no.RunState) (not u) no.RunState) v no.RunState) x no.RunState)
+      decided_of (cond t (Err no.RunState) (cond (not u) (Err no.RunState) (cond v (Err no.RunState) (cond x (Err no.RunState) (Ok tt)))))
       (λ n. record { book = b; refusal = refusal_number n }) (record { book = goes_on_after b (books.run_of node day rate 0) (map arrears_of b.accounts) 0; refusal = 0 }) in
       let n : ℕ = cond (t || (not u || (v || x))) 28 0 in
       KeptState reply.book (opened n s node day rate) × (reply.refusal ≡ n)
@@ -263,13 +262,13 @@ module _ {b : Book} {s : State} (w : KeptState b s) (node day rate : ℕ) where
 
   pub opening_same : let o = open_run_of b node day rate in let n = opening_refusal s.run node day rate in
       KeptState o.book (opened n s node day rate) × (o.refusal ≡ n)
-  unfolding open_run_of check_opening_of refuse_if decided_of
+  unfolding open_run_of check_opening_of decided_of
   opening_same = rw (open_same w.run) (go (is_open s.run) (between node 1 2) (ltb last_day day) (ltb late_rate_most rate) refl refl refl)
     where
       go : (t u v x : Bool) → between node 1 2 ≡ u → ltb last_day day ≡ v → ltb late_rate_most rate ≡ x → Same t u v x
-      go true u v x p q r = rw (refused_stays no.RunState no.RunState (not u), refused_stays no.RunState no.RunState v, refused_stays no.RunState no.RunState x) (w, refl)
-      go false false v x p q r = rw (refused_stays no.RunState no.RunState v, refused_stays no.RunState no.RunState x) (w, refl)
-      go false true true x p q r = rw (refused_stays no.RunState no.RunState x) (w, refl)
+      go true u v x p q r = (w, refl)
+      go false false v x p q r = (w, refl)
+      go false true true x p q r = (w, refl)
       go false true false true p q r = (w, refl)
       go false true false false p q r = (begun p q r, refl)
 

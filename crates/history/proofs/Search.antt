@@ -22,14 +22,14 @@ use Rattle.entries.proofs.Ranges.{inside}
 use Rattle.rules.specs.Windows.{paid_within}
 use Rattle.rules.specs.Windows as windows
 use Rattle.rules.specs.declared.accounts.Account.{Account}
-use Rattle.changes.specs.declared.Found.{Found}
-use Rattle.changes.specs.declared.Found.TheVariants.{At, Nothing}
 use Rattle.book.specs.Serials.{last_of}
 use Rattle.book.specs.Chain as chains
-use Rattle.book.specs.Chain.{ends_of, start_of, walk_of, paid_over, sought_in}
+use Rattle.book.specs.declared.Found.{Found}
+use Rattle.book.specs.declared.Found.TheVariants.{At, Nothing}
+use Rattle.book.specs.Chain.{ends_of, link_of, start_of, walk_of, paid_over, sought_in}
 use Rattle.book.specs.Posting.{account_at, lookup_of, paid_of}
 use Rattle.book.specs.declared.Book.{Book}
-use Rattle.book.proofs.Chain.{place_link, walk_zero, walk_link}
+use Rattle.book.proofs.ChainLaws.{place_link, walk_zero, walk_link}
 use Rattle.history.specs.History.{History, accounts, entries, window_days, last_serial, naming, points, Target, absent, present, find, named, filter, entries_of, sum, paid_until, fate, total, paid_by, target_entry, target_fate, Balance, balance, refusals}
 use Rattle.history.specs.Images.{newest_of}
 use Rattle.history.specs.Agreement.{account_in, kept_entry, Placed, start, more, Agrees, kept_link, kept_walk}
@@ -39,10 +39,6 @@ use Rattle.history.proofs.Names.{hit}
 use Rattle.history.proofs.Conserve.{total_filter}
 use Rattle.history.proofs.Bound.{in_book, paid_small}
 use Rattle.history.proofs.Tables.{Same, kept_read, rows, rows_from, own_same, missing_same, naming_same}
-
-abbrev pub place_of : Target → Found
-place_of absent = Nothing
-place_of (present i e) = At i
 
 goes_on : (n : ℕ) → n < entries → ends_of (n + 1) ≡ false
 unfolding ends_of
@@ -68,9 +64,9 @@ module _ (all : History) (es : List Entry) (a : ℕ) where
       walk_step r h f (omega arith) e (λ g q. walk rs (omega arith) g q) (omega arith) (eqb r.account a) refl
 
 -- what a search of the book and the history's end in
-pub data Finds (all : History) : chains.Sought → Target → Type 0 where
-  neither : Finds all chains.missing absent
-  both : (g : History) {i : ℕ} {e : Raw} → Finds all (chains.found i (kept_entry all g e)) (present i e)
+pub data Finds (all : History) : Found → Target → Type 0 where
+  neither : Finds all Nothing absent
+  both : (g : History) {i : ℕ} {e : Raw} → Finds all (At (link_of i (kept_entry all g e))) (present i e)
 
 pub finds : (all h : History) (c : Raw) → Finds all (sought_in (points_at c) (kept_walk all h c.account)) (find h c)
 unfolding sought_in kept_walk find points entry_of
@@ -85,8 +81,8 @@ finds all (r ∷ h) c = go (finds all h c) (eqb r.account c.account) (eqb r.node
     go ih true false e = rw e ih
     go ih false u e = ih
 
-pub found_at : {all : History} {x : chains.Sought} {s : Target} → Finds all x s → (i : ℕ) (e : Raw) → s ≡ present i e →
-    (g : History) × (x ≡ chains.found i (kept_entry all g e))
+pub found_at : {all : History} {x : Found} {s : Target} → Finds all x s → (i : ℕ) (e : Raw) → s ≡ present i e →
+    (g : History) × (x ≡ At (link_of i (kept_entry all g e)))
 found_at neither i e q = let z : ◌≡◌ {A = ℕ} 0 1 = cc in absurd (omega arith)
 found_at (both g) i e q = (g, (cc))
 
@@ -182,7 +178,7 @@ module _ {b : Book} {h : History} (w : Agrees b h) (v : Valid h) where
       acc : Account
       acc = account_in h r.account
 
-      go : (n : Bool) → naming k ≡ n → (s : Target) → find h r ≡ s → {x : chains.Sought} → Finds h x (cond n s absent) →
+      go : (n : Bool) → naming k ≡ n → (s : Target) → find h r ≡ s → {x : Found} → Finds h x (cond n s absent) →
           Same (rows r k acc n x) (rows_from 8 (refusals way h r k (target_entry (cond n s absent)) (target_fate h (cond n s absent)) bal))
       go false n s q f = own_same way h r k bal (newest_of h r.account) n
       go true n absent q neither = missing_same way h r k bal acc n

@@ -15,7 +15,7 @@ use Rattle.calendar.proofs.Calendar.{calendar}
 use Rattle.entries.specs.Arrivals.{unknown_to, no_day_for, waits_for}
 use Rattle.entries.specs.Kinds.{kind_of, names_of, misnames_of, same_of}
 use Rattle.entries.specs.Ranges.{between}
-use Rattle.entries.specs.Refusals.{refusal_number, refuse_if, decided_of}
+use Rattle.entries.specs.Refusals.{refusal_number, check_number, decided_of}
 use Rattle.entries.specs.Refusals as checks
 use Rattle.entries.specs.Data.{metres, entry_of, FromContribution, case_of, of_contribution, particulars_of}
 use Rattle.entries.specs.declared.arrivals.Arrival.{Arrival}
@@ -24,17 +24,14 @@ use Rattle.entries.specs.declared.raw.Raw.{Raw}
 use Rattle.entries.specs.declared.kinds.Kind.{Kind}
 use Rattle.entries.specs.declared.kinds.Kind.TheVariants as kind
 use Rattle.entries.specs.declared.data.Particulars.{Particulars}
-use Rattle.entries.specs.declared.refusals.Refusal.{Refusal}
 use Rattle.entries.specs.declared.refusals.Refusal.TheVariants as no
-use Rattle.entries.specs.declared.refusals.Check.{Check}
-use Rattle.entries.specs.declared.refusals.Check.TheVariants as check
-use Rattle.entries.proofs.RefusalsLaws.{refused_stays, check_number}
 use Rattle.rules.specs.Checks.{own_rows, naming_rows, check_own_of, check_naming_of}
-use Rattle.changes.specs.Changes.{own_change_of, naming_change_of, own_decision_of, naming_decision_of}
-use Rattle.changes.specs.declared.Decision.{Decision}
-use Rattle.changes.specs.declared.Decision.TheVariants.{Refused, Accepted}
+use Rattle.std.specs.Prelude.{Ok, Err}
+use Rattle.changes.specs.Changes.{Decision, own_change_of, naming_change_of, own_decision_of, naming_decision_of}
 use Rattle.rules.specs.declared.accounts.Account.{Account}
-use Rattle.book.specs.Chain as chains
+use Rattle.book.specs.Chain.{link_of}
+use Rattle.book.specs.declared.Found.{Found}
+use Rattle.book.specs.declared.Found.TheVariants.{At, Nothing}
 use Rattle.book.specs.Refusals.{entry_rows, check_entry_of, searched_of, decision_by}
 use Rattle.history.specs.History.{History, accounts, entries, refund_years, guarantee_years, dated, dated_after, naming_guarantee, naming, suits, last_serial, absent, Fate, fate, guarantee_open, target_entry, target_fate, Balance, Rule, first_broken, unknown_so, no_day_so, waits_so, refusals, to_arrears, refunds_paid}
 use Rattle.history.specs.Agreement.{kept_account, kept_data, kept_entry}
@@ -55,27 +52,23 @@ Same [] (y ∷ ys) = (y.broken ≡ false) × Same [] ys
 Same (x ∷ xs) (y ∷ ys) =
     Pick (eqb (refusal_number x.refusal) y.number) ((x.broken ≡ y.broken) × (y.broken ≡ false → Same xs ys)) ((y.broken ≡ false) × Same (x ∷ xs) ys)
 
-refused_first : (n : Refusal) (xs : List checks.Row) → checks.check_rows (check.Refused n) xs ≡ check.Refused n
-refused_first n [] = refl
-refused_first n (x ∷ xs) = rw (refused_stays n x.refusal x.broken) (refused_first n xs)
-
-pub first_same : (xs : List checks.Row) (ys : List Rule) → Same xs ys → check_number (checks.check_rows check.Passed xs) ≡ first_broken ys
-unfolding refuse_if check_number
+pub first_same : (xs : List checks.Row) (ys : List Rule) → Same xs ys → check_number (checks.check_rows xs) ≡ first_broken ys
+unfolding check_number
 first_same [] [] s = refl
 first_same (x ∷ xs) [] s = absurd s
 first_same [] (y ∷ ys) s = rw s.0 (first_same [] ys s.1)
 first_same (x ∷ xs) (y ∷ ys) s =
     pick (λ q. first_same xs ys q) (λ q. first_same (x ∷ xs) ys q) (eqb (refusal_number x.refusal) y.number) refl s
   where
-    here : (Same xs ys → check_number (checks.check_rows check.Passed xs) ≡ first_broken ys) → (y.broken ≡ false → Same xs ys) → refusal_number x.refusal ≡ y.number →
-        (t : Bool) → y.broken ≡ t → check_number (checks.check_rows (refuse_if check.Passed t x.refusal) xs) ≡ cond t y.number (first_broken ys)
-    here ih s q true e = rw (refused_first x.refusal xs) q
+    here : (Same xs ys → check_number (checks.check_rows xs) ≡ first_broken ys) → (y.broken ≡ false → Same xs ys) → refusal_number x.refusal ≡ y.number →
+        (t : Bool) → y.broken ≡ t → check_number (cond t (Err x.refusal) (checks.check_rows xs)) ≡ cond t y.number (first_broken ys)
+    here ih s q true e = q
     here ih s q false e = ih (s e)
 
-    pick : (Same xs ys → check_number (checks.check_rows check.Passed xs) ≡ first_broken ys) →
-        (Same (x ∷ xs) ys → check_number (checks.check_rows check.Passed (x ∷ xs)) ≡ first_broken ys) → (t : Bool) → eqb (refusal_number x.refusal) y.number ≡ t →
+    pick : (Same xs ys → check_number (checks.check_rows xs) ≡ first_broken ys) →
+        (Same (x ∷ xs) ys → check_number (checks.check_rows (x ∷ xs)) ≡ first_broken ys) → (t : Bool) → eqb (refusal_number x.refusal) y.number ≡ t →
         Pick t ((x.broken ≡ y.broken) × (y.broken ≡ false → Same xs ys)) ((y.broken ≡ false) × Same (x ∷ xs) ys) →
-        check_number (checks.check_rows check.Passed (x ∷ xs)) ≡ first_broken (y ∷ ys)
+        check_number (checks.check_rows (x ∷ xs)) ≡ first_broken (y ∷ ys)
     pick ih more true e s = rw s.0 (here ih s.1 (eqb-true _ _ e) y.broken refl)
     pick ih more false e s = rw s.0 (more s.1)
 
@@ -195,37 +188,42 @@ kept_read kind.Retention e f s p = (refl, λ A g x. refl)
 kept_read kind.LateCharge e f s p = (refl, λ A g x. refl)
 
 -- what is left of the table after 1 to 7, 30 and 27, for the entry that r names or none, and what an entry does that passes it
-abbrev pub rows : Raw → Kind → Account → Bool → chains.Sought → List checks.Row
-rows r k acc false s = own_rows r k acc
-rows r k acc true chains.missing = record { broken = true; refusal = no.NotOnChain } ∷ []
-rows r k acc true (chains.found i e) = naming_rows r k e
+abbrev pub rows : Raw → Kind → Account → Bool → Found → List checks.Row
+rows r k acc false f = own_rows r k acc
+rows r k acc true Nothing = record { broken = true; refusal = no.NotOnChain } ∷ []
+rows r k acc true (At l) = naming_rows r k l.entry
 
-abbrev pub effect : Raw → Kind → Account → Cents → Bool → chains.Sought → Decision
-effect r k acc paid false s = Accepted (own_change_of r k acc)
-effect r k acc paid true chains.missing = Refused no.NotOnChain
-effect r k acc paid true (chains.found i e) = Accepted (naming_change_of r k acc paid i e.«data»)
+abbrev pub effect : Raw → Kind → Account → Cents → Bool → Found → Decision
+effect r k acc paid false f = Ok (own_change_of r k acc)
+effect r k acc paid true Nothing = Err no.NotOnChain
+effect r k acc paid true (At l) = Ok (naming_change_of r k acc paid l)
 
 -- the parted checks are one table
-parted : (c : Check) (xs ys : List checks.Row) (o : Decision) →
-    decided_of (checks.check_rows c xs) Refused (decided_of (checks.check_rows check.Passed ys) Refused o) ≡ decided_of (checks.check_rows c (xs ++ ys)) Refused o
+parted : (xs ys : List checks.Row) (o : Decision) →
+    decided_of (checks.check_rows xs) Err (decided_of (checks.check_rows ys) Err o) ≡ decided_of (checks.check_rows (xs ++ ys)) Err o
 unfolding decided_of
-parted check.Passed [] ys o = refl
-parted (check.Refused n) [] ys o = rw (refused_first n ys) refl
-parted c (x ∷ xs) ys o = parted (refuse_if c x.broken x.refusal) xs ys o
+parted [] ys o = refl
+parted (x ∷ xs) ys o = go x.broken (parted xs ys o)
+  where
+    go : (t : Bool) → decided_of (checks.check_rows xs) Err (decided_of (checks.check_rows ys) Err o) ≡ decided_of (checks.check_rows (xs ++ ys)) Err o →
+        decided_of (cond t (Err x.refusal) (checks.check_rows xs)) Err (decided_of (checks.check_rows ys) Err o) ≡
+        decided_of (cond t (Err x.refusal) (checks.check_rows (xs ++ ys))) Err o
+    go true again = refl
+    go false again = again
 
-pub one_table : (r : Raw) (w : Arrival) (count last : ℕ) (acc : Account) (s : chains.Sought) (paid : Cents) → let k = kind_of r.kind in
-    decision_by r w count last acc s paid ≡ decided_of (checks.check_rows check.Passed (entry_rows r k w count last ++ rows r k acc (names_of k) s)) Refused (effect r k acc paid (names_of k) s)
-unfolding decision_by check_entry_of searched_of own_decision_of naming_decision_of check_own_of check_naming_of refuse_if decided_of
-one_table r w count last acc s paid = rw (go (names_of k) s) (parted check.Passed (entry_rows r k w count last) (rows r k acc (names_of k) s) (effect r k acc paid (names_of k) s))
+pub one_table : (r : Raw) (w : Arrival) (count last : ℕ) (acc : Account) (f : Found) (paid : Cents) → let k = kind_of r.kind in
+    decision_by r w count last acc f paid ≡ decided_of (checks.check_rows (entry_rows r k w count last ++ rows r k acc (names_of k) f)) Err (effect r k acc paid (names_of k) f)
+unfolding decision_by check_entry_of searched_of own_decision_of naming_decision_of check_own_of check_naming_of decided_of
+one_table r w count last acc f paid = rw (go (names_of k) f) (parted (entry_rows r k w count last) (rows r k acc (names_of k) f) (effect r k acc paid (names_of k) f))
   where
     k : Kind
     k = kind_of r.kind
 
-    go : (t : Bool) (s : chains.Sought) →
-        cond t (searched_of r k acc paid s) (own_decision_of r k acc) ≡ decided_of (checks.check_rows check.Passed (rows r k acc t s)) Refused (effect r k acc paid t s)
-    go false s = refl
-    go true chains.missing = refl
-    go true (chains.found i e) = refl
+    go : (t : Bool) (f : Found) →
+        cond t (searched_of r k acc paid f) (own_decision_of r k acc) ≡ decided_of (checks.check_rows (rows r k acc t f)) Err (effect r k acc paid t f)
+    go false f = refl
+    go true Nothing = refl
+    go true (At l) = refl
 
 -- THE ROWS FROM 8 ON
 abbrev pub rows_from : ℕ → List Rule → List Rule
@@ -235,7 +233,7 @@ rows_from n (x ∷ xs) = cond (eqb x.number n) (x ∷ xs) (rows_from n xs)
 module _ (w : Arrival) (h : History) (r : Raw) (k : Kind) (b : Balance) where
   -- of an entry that names nothing
   pub own_same : (newest : ℕ) → naming k ≡ false →
-      Same (rows r k (kept_account b (guarantee_open h r.account) newest) false chains.missing) (rows_from 8 (refusals w h r k (target_entry absent) (target_fate h absent) b))
+      Same (rows r k (kept_account b (guarantee_open h r.account) newest) false Nothing) (rows_from 8 (refusals w h r k (target_entry absent) (target_fate h absent) b))
   own_same newest n =
       let none : (l : Kind) → naming l ≡ true → same_of k l ≡ false = λ l m. naming_not k l false m n in
       let no-added = none kind.AddedCustomer refl in (
@@ -265,14 +263,14 @@ module _ (w : Arrival) (h : History) (r : Raw) (k : Kind) (b : Balance) where
       )
 
   -- of an entry that names one that is not on the chain
-  pub missing_same : (acc : Account) → naming k ≡ true → Same (rows r k acc true chains.missing) (rows_from 8 (refusals w h r k (target_entry absent) (target_fate h absent) b))
+  pub missing_same : (acc : Account) → naming k ≡ true → Same (rows r k acc true Nothing) (rows_from 8 (refusals w h r k (target_entry absent) (target_fate h absent) b))
   missing_same acc n =
       let stops : true ≡ (naming k && not (suits k (kind_of 0))) = rw (n, unsuited k) in
       (stops, λ t. absurd (true≢false (stops ∙ t)))
 
   -- of an entry that names x, which the book keeps
   pub naming_same : (acc : Account) (i : ℕ) (g : History) (x : Raw) → naming k ≡ true → x.day ≤ last_day → r.day ≤ last_day →
-      Same (rows r k acc true (chains.found i (kept_entry h g x))) (rows_from 8 (refusals w h r k x (fate h x) b))
+      Same (rows r k acc true (At (link_of i (kept_entry h g x)))) (rows_from 8 (refusals w h r k x (fate h x) b))
   unfolding entry_of
   naming_same acc i g x n from until =
       let l = kind_of x.kind in
@@ -319,7 +317,7 @@ module _ (w : Arrival) (h : History) (r : Raw) (k : Kind) (b : Balance) where
 module _ (w : Arrival) (h : History) (r : Raw) (k : Kind) (count last : ℕ) (rest : List checks.Row) (x : Raw) (f : Fate) (b : Balance) (counted : count ≡ length h)
     (lasts : between r.node 1 2 ≡ true → last ≡ last_serial h r.node)
     (state : between r.account 1 accounts ≡ true → r.day ≤ last_day → Same rest (rows_from 8 (refusals w h r k x f b))) where
-  pub check_same : check_number (checks.check_rows check.Passed (entry_rows r k w count last ++ rest)) ≡ first_broken (refusals w h r k x f b)
+  pub check_same : check_number (checks.check_rows (entry_rows r k w count last ++ rest)) ≡ first_broken (refusals w h r k x f b)
   check_same =
       first_same (entry_rows r k w count last ++ rest) (refusals w h r k x f b) (
         unknown_same w k,

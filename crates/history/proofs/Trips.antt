@@ -24,7 +24,7 @@ use Rattle.book.specs.Posting.{account_at, record_of}
 use Rattle.book.specs.declared.Book.{Book}
 use Rattle.runs.specs.Runs.{without_run}
 use Rattle.saves.specs.Saves.{image_of}
-use Rattle.replays.specs.Loaded.{LoadedReply, raw_in, accepted_load, refused_load, record_refusal}
+use Rattle.loads.specs.Loaded.{LoadedReply, raw_in, accepted_load, refused_load, record_refusal}
 use Rattle.loads.specs.Loads.{records_in, load_all, load_of}
 use Rattle.loads.proofs.Loads.{load_begins, load_checked, stop_none, none_stops, load_more}
 use Rattle.history.specs.History.{History, entries, judge, offer}

@@ -4,7 +4,7 @@ use Rattle.measures.specs.Cents.{cents}
 use Rattle.measures.specs.Days.{day}
 use Rattle.measures.specs.declared.Cents.{Cents}
 use Rattle.entries.specs.Kinds.{kind_of}
-use Rattle.entries.specs.Data.{metres, no_entry, entry_of}
+use Rattle.entries.specs.Data.{metres, no_entry, named_by, entry_of}
 use Rattle.entries.specs.declared.arrivals.Arrival.{Arrival}
 use Rattle.entries.specs.declared.raw.Raw.{Raw}
 use Rattle.entries.specs.declared.kinds.Kind.{Kind}
@@ -16,7 +16,7 @@ use Rattle.rules.specs.Accounts.{account_of}
 use Rattle.rules.specs.declared.accounts.Account.{Account}
 use Rattle.book.specs.Fresh.{fresh_book, none_noted}
 use Rattle.book.specs.Runs as books
-use Rattle.book.specs.Chain.{Link}
+use Rattle.changes.specs.declared.Link.{Link}
 use Rattle.book.specs.Posting.{account_at, enter_of}
 use Rattle.book.specs.declared.Book.{Book}
 use Rattle.book.specs.declared.Run as declared
@@ -40,16 +40,16 @@ abbrev pub kept_data : Kind → Raw → Fate → ℕ → ℕ → Data
 kept_data kind.Unknown e f settled paid_out = data'.Unused
 kept_data kind.Contribution e f settled paid_out =
     data'.Contribution e.b (metres e.a) f.added f.closed (cents e.amount) (cents f.held) (cents settled) (cents paid_out) (cents f.retained)
-kept_data kind.AddedCustomer e f settled paid_out = data'.AddedCustomer e.named_node e.named_serial (metres e.a) e.b
+kept_data kind.AddedCustomer e f settled paid_out = data'.AddedCustomer (named_by e) (metres e.a) e.b
 kept_data kind.Bill e f settled paid_out = data'.Bill (cents e.amount) e.a e.b (cents f.standing) f.corrected
 kept_data kind.Payment e f settled paid_out = data'.Payment (cents e.amount) (cents f.standing) f.corrected
 kept_data kind.Deposit e f settled paid_out = data'.Deposit (cents e.amount) e.a
 kept_data kind.DepositReturn e f settled paid_out = data'.DepositReturn
-kept_data kind.Expiry e f settled paid_out = data'.Expiry e.named_node e.named_serial
-kept_data kind.Correction e f settled paid_out = data'.Correction e.named_node e.named_serial (cents e.amount)
+kept_data kind.Expiry e f settled paid_out = data'.Expiry (named_by e)
+kept_data kind.Correction e f settled paid_out = data'.Correction (named_by e) (cents e.amount)
 kept_data kind.Guarantee e f settled paid_out = data'.Guarantee f.closed (day f.reduced) (cents e.amount) (cents f.held)
-kept_data kind.Reduction e f settled paid_out = data'.Reduction e.named_node e.named_serial
-kept_data kind.Retention e f settled paid_out = data'.Retention e.named_node e.named_serial
+kept_data kind.Reduction e f settled paid_out = data'.Reduction (named_by e)
+kept_data kind.Retention e f settled paid_out = data'.Retention (named_by e)
 kept_data kind.LateCharge e f settled paid_out = data'.LateCharge (cents e.amount)
 
 abbrev pub data_in : History → Raw → Data

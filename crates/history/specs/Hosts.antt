@@ -6,7 +6,7 @@ use Rattle.entries.specs.declared.raw.Raw.{Raw}
 use Rattle.entries.specs.declared.kinds.Kind.TheVariants as kind
 use Rattle.codec.specs.Bytes.{Bytes}
 use Rattle.codec.specs.Headers.{mark}
-use Rattle.replays.specs.Loaded.{LoadedReply}
+use Rattle.loads.specs.Loaded.{LoadedReply}
 use Rattle.loads.specs.Loads.{load_of}
 use Rattle.entries.specs.Order.{first_refusal}
 use Rattle.image_read.specs.Checks.{check_given}

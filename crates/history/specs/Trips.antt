@@ -7,7 +7,7 @@ use Rattle.book.specs.Posting.{record_of}
 use Rattle.book.specs.declared.Book.{Book}
 use Rattle.runs.specs.Runs.{without_run}
 use Rattle.saves.specs.Saves.{image_of}
-use Rattle.replays.specs.Loaded.{raw_in, accepted_load}
+use Rattle.loads.specs.Loaded.{raw_in, accepted_load}
 use Rattle.loads.specs.Loads.{records_in, load_of}
 use Rattle.history.specs.History.{History}
 use Rattle.history.specs.Images.{Typed, AllTyped, image_in}

@@ -1,351 +1,328 @@
 // Two nodes that keep their books as images, through the exported calls. Each call prints all that it gives.
 #![tactic(auto)]
 
-use codec::encode;
+use codec::{RECORD, Record, header};
 use contribution_book::{
     contribution_book_carry_over, contribution_book_check, contribution_book_contribution,
     contribution_book_page, contribution_book_post, contribution_book_statement,
 };
-use entries::Raw;
+use entries::{Kind, Raw};
 use std::io;
-use text::first;
+use std::ops::Range;
+use text::Spaced;
 
 const ROOM: usize = 288;
 
 // One byte more than a page has.
 const PAGE_ROOM: usize = 5347;
 
-// A node's image: the first bytes of an array.
-#[derive(Clone, Copy)]
-struct Host {
-    image: [u8; ROOM],
-    length: usize,
-}
+// The first 19 lines of a page.
+const LINES: usize = 19 * 81;
 
-fn print(rt: &impl Print, number: u64) -> io::Result<()> {
-    print!(rt; " {number}")
-}
-
-fn wide(byte: u8) -> u64 {
-    byte as u64
-}
-
-// Bytes in decimal, each after a space.
-fn print_bytes(rt: &impl Print, bytes: &[u8]) -> io::Result<()> {
-    let mut i: usize = 0;
-    while i < bytes.len() {
-        print(rt, wide(bytes[i]))?;
-        i += 1;
-    }
-    println!(rt)
-}
-
-fn flag(b: bool) -> u64 {
-    if b { 1 } else { 0 }
-}
-
-// An entry of account 5.
-fn entry(
-    kind: u8,
-    node: u8,
-    day: u16,
-    serial: u32,
-    amount: u32,
-    named_serial: u32,
-    a: u16,
-    b: u8,
-) -> [u8; 24] {
-    let named_node: u8 = if named_serial == 0 { 0 } else { 1 };
-    let raw = Raw {
-        kind,
+// An entry of account 5, with no amount and nothing named.
+fn entry(kind: Kind, node: u8, day: u16, serial: u32) -> Raw {
+    Raw {
+        kind: kind.into(),
         node,
         account: 5,
         day,
         serial,
+        ..Raw::default()
+    }
+}
+
+fn contribution(node: u8, day: u16, serial: u32, amount: u32, built: u16, phases: u8) -> Raw {
+    Raw {
         amount,
-        named_serial,
-        a,
-        b,
-        named_node,
-    };
-    encode(raw, 0)
-}
-
-fn fresh() -> Host {
-    let mut image = [0u8; ROOM];
-    image[0] = b'C';
-    image[1] = b'H';
-    image[2] = b'B';
-    image[3] = b'1';
-    Host { image, length: 24 }
-}
-
-// The image with a byte changed.
-fn damaged(host: Host, at: usize, byte: u8) -> Host {
-    let mut image = host.image;
-    if at < ROOM {
-        image[at] = byte;
-    }
-    Host {
-        image,
-        length: host.length,
+        a: built,
+        b: phases,
+        ..entry(Kind::Contribution, node, day, serial)
     }
 }
 
-// The bytes from a place on, at most so many.
-fn part(bytes: &[u8], from: usize, count: usize) -> &[u8] {
-    let a = first(bytes, from);
-    let rest = &bytes[a..];
-    let n = first(rest, count);
-    &rest[..n]
-}
-
-// Prints bytes of the image from a place on.
-fn show(rt: &impl Print, host: Host, from: usize, count: usize) -> io::Result<()> {
-    let image = host.image;
-    print!(rt; "bytes")?;
-    print_bytes(rt, part(&image, from, count))
-}
-
-fn check(rt: &impl Print, host: Host) -> io::Result<()> {
-    let image = host.image;
-    let n = first(&image, host.length);
-    let given = contribution_book_check(&image[..n]);
-    println!(rt;
-        "check {} {} {}",
-        given.refusal, given.record, given.entries,
-    )
-}
-
-// Posts the first so many bytes of an entry, with so much room for the next image. Last is the output's first byte, 255 where nothing
-// is written.
-fn post_into(
-    rt: &impl Print,
-    host: Host,
-    entry: [u8; 24],
-    size: usize,
-    room: usize,
-) -> io::Result<Host> {
-    let image = host.image;
-    let mut output = [255u8; ROOM];
-    let n = first(&image, host.length);
-    let e = first(&entry, size);
-    let m = first(&output, room);
-    let given = contribution_book_post(&image[..n], &entry[..e], &mut output[..m]);
-    println!(rt;
-        "post {} {} {} {} {} {} {} {} {}",
-        given.refusal,
-        given.record,
-        given.number,
-        given.bytes,
-        given.settled,
-        given.paid_out,
-        given.retained,
-        given.interest,
-        output[0],
-    )?;
-    if given.refusal != 0 {
-        return Ok(host);
+// A bill of 30 days, served for all of them.
+fn bill(node: u8, day: u16, serial: u32, charge: u32) -> Raw {
+    Raw {
+        amount: charge,
+        a: 30,
+        b: 30,
+        ..entry(Kind::Bill, node, day, serial)
     }
-    Ok(Host {
-        image: output,
-        length: given.bytes,
-    })
 }
 
-fn post(rt: &impl Print, host: Host, entry: [u8; 24]) -> io::Result<Host> {
-    post_into(rt, host, entry, 24, ROOM)
-}
-
-// Takes the array as it is, so that a call needs no proof of its length.
-fn print_results(rt: &impl Print, results: &[u8; 5]) -> io::Result<()> {
-    print_bytes(rt, results)
-}
-
-// Carries entries over, with so many places for results and so much room for the next image. Last are the output's first byte and five
-// places, 255 before.
-fn carry(
-    rt: &impl Print,
-    host: Host,
-    entries: &[u8],
-    places: usize,
-    room: usize,
-) -> io::Result<Host> {
-    let image = host.image;
-    let mut results = [255u8; 5];
-    let mut output = [255u8; ROOM];
-    let n = first(&image, host.length);
-    let p = first(&results, places);
-    let m = first(&output, room);
-    let given = contribution_book_carry_over(
-        &image[..n],
-        entries,
-        &mut results[..p],
-        &mut output[..m],
-    );
-    print!(rt;
-        "carry-over {} {} {} {}",
-        given.refusal, given.record, given.bytes, output[0],
-    )?;
-    print_results(rt, &results)?;
-    if given.refusal != 0 {
-        return Ok(host);
+fn payment(node: u8, day: u16, serial: u32, amount: u32) -> Raw {
+    Raw {
+        amount,
+        ..entry(Kind::Payment, node, day, serial)
     }
-    Ok(Host {
-        image: output,
-        length: given.bytes,
-    })
 }
 
-// The first so many bytes of the other node's records are the entries.
-fn carry_into(
-    rt: &impl Print,
-    host: Host,
-    other: Host,
-    size: usize,
-    places: usize,
-    room: usize,
-) -> io::Result<Host> {
-    let image = other.image;
-    carry(rt, host, part(&image, 24, size), places, room)
-}
-
-fn state(rt: &impl Print, host: Host, account: u16, allowance: u64) -> io::Result<()> {
-    let image = host.image;
-    let n = first(&image, host.length);
-    let given = contribution_book_statement(&image[..n], account, allowance);
-    println!(rt;
-        "statement {} {} {} {} {} {} {} {} {} {}",
-        given.refusal,
-        given.record,
-        given.links_read,
-        flag(given.complete),
-        given.arrears,
-        given.credit,
-        given.deposit,
-        given.held,
-        given.bills,
-        given.payments,
-    )
-}
-
-fn query(rt: &impl Print, host: Host, account: u16, node: u8, serial: u32) -> io::Result<()> {
-    let image = host.image;
-    let n = first(&image, host.length);
-    let given = contribution_book_contribution(&image[..n], account, node, serial);
-    println!(rt;
-        "contribution {} {} {} {} {} {} {} {} {}",
-        given.refusal,
-        given.record,
-        given.added,
-        flag(given.closed),
-        given.amount,
-        given.to_arrears,
-        given.paid_out,
-        given.held,
-        given.retained,
-    )
-}
-
-// The first 19 lines of a page. Takes the array as it is, so that a call needs no proof of its length.
-fn print_lines(rt: &impl Print, page: &[u8; PAGE_ROOM]) -> io::Result<()> {
-    rt.write_all(part(page, 0, 19 * 81))
-}
-
-// Asks for a page with so much room. Last are the output's first byte and the one past a page, 255 before; then the page's first 19 lines,
-// where it is accepted.
-fn page(rt: &impl Print, host: Host, account: u16, room: usize) -> io::Result<()> {
-    let image = host.image;
-    let mut output = [255u8; PAGE_ROOM];
-    let n = first(&image, host.length);
-    let m = first(&output, room);
-    let given = contribution_book_page(&image[..n], account, &mut output[..m]);
-    println!(rt;
-        "page {} {} {} {} {}",
-        given.refusal,
-        given.record,
-        given.bytes,
-        output[0],
-        output[PAGE_ROOM - 1],
-    )?;
-    if given.refusal == 0 {
-        print_lines(rt, &output)?;
+// Names the first entry of node 1.
+fn naming(entry: Raw) -> Raw {
+    Raw {
+        named_serial: 1,
+        named_node: 1,
+        ..entry
     }
-    Ok(())
+}
+
+// A node: its image is the first bytes of an array. It prints to standard output.
+#[derive(Drop)]
+struct Host<'a, P: Print> {
+    rt: &'a P,
+    memory: [u8; ROOM],
+    length: usize,
+}
+
+impl<'a, P: Print> Host<'a, P> {
+    fn fresh(rt: &'a P) -> Host<'a, P> {
+        let mut memory = [0; ROOM];
+        memory[..RECORD].copy_from_slice(&header(0));
+        Host {
+            rt,
+            memory,
+            length: RECORD,
+        }
+    }
+
+    // The same image with a byte changed.
+    fn damaged(&self, at: usize, byte: u8) -> Host<'a, P> {
+        let mut memory = self.memory;
+        if at < ROOM {
+            memory[at] = byte;
+        }
+        Host {
+            rt: self.rt,
+            memory,
+            length: self.length,
+        }
+    }
+
+    fn image(&self) -> &[u8] {
+        &self.memory[..self.length.min(ROOM)]
+    }
+
+    // The first so many bytes of the records.
+    fn records(&self, size: usize) -> &[u8] {
+        let records = &self.memory[RECORD..];
+        &records[..size.min(records.len())]
+    }
+
+    // Prints bytes of the array.
+    fn show(&self, places: Range<usize>) -> io::Result<()> {
+        println!(self.rt; "bytes{}", Spaced(self.memory.get(places).unwrap_or(&[])))
+    }
+
+    fn check(&self) -> io::Result<()> {
+        let given = contribution_book_check(self.image());
+        println!(self.rt;
+            "check {} {} {}",
+            given.refusal, given.record, given.entries,
+        )
+    }
+
+    // Takes the next image that a call gives, unless it is refused.
+    fn keep(&mut self, refusal: u8, memory: [u8; ROOM], length: usize) {
+        if refusal == 0 {
+            self.memory = memory;
+            self.length = length;
+        }
+    }
+
+    // Posts the first so many bytes of an entry, with so much room for the next image. Last is the output's first byte, 255 where nothing
+    // is written.
+    fn post_into(&mut self, entry: Raw, size: usize, room: usize) -> io::Result<()> {
+        let mut output = [255; ROOM];
+        let record = Record {
+            raw: entry,
+            next: 0,
+        };
+        let given = contribution_book_post(
+            self.image(),
+            &record.encode()[..size.min(RECORD)],
+            &mut output[..room.min(ROOM)],
+        );
+        println!(self.rt;
+            "post {} {} {} {} {} {} {} {} {}",
+            given.refusal,
+            given.record,
+            given.number,
+            given.bytes,
+            given.settled,
+            given.paid_out,
+            given.retained,
+            given.interest,
+            output[0],
+        )?;
+        self.keep(given.refusal, output, given.bytes);
+        Ok(())
+    }
+
+    fn post(&mut self, entry: Raw) -> io::Result<()> {
+        self.post_into(entry, RECORD, ROOM)
+    }
+
+    // Carries entries over, with so many places for results and so much room for the next image. Last are the output's first byte and five
+    // places, 255 before.
+    fn carry_over(&mut self, entries: &[u8], places: usize, room: usize) -> io::Result<()> {
+        let mut results = [255; 5];
+        let mut output = [255; ROOM];
+        let given = contribution_book_carry_over(
+            self.image(),
+            entries,
+            &mut results[..places.min(5)],
+            &mut output[..room.min(ROOM)],
+        );
+        println!(self.rt;
+            "carry-over {} {} {} {}{}",
+            given.refusal,
+            given.record,
+            given.bytes,
+            output[0],
+            Spaced(&results),
+        )?;
+        self.keep(given.refusal, output, given.bytes);
+        Ok(())
+    }
+
+    fn statement(&self, account: u16, allowance: u64) -> io::Result<()> {
+        let given = contribution_book_statement(self.image(), account, allowance);
+        println!(self.rt;
+            "statement {} {} {} {} {} {} {} {} {} {}",
+            given.refusal,
+            given.record,
+            given.links_read,
+            u8::from(given.complete),
+            given.arrears,
+            given.credit,
+            given.deposit,
+            given.held,
+            given.bills,
+            given.payments,
+        )
+    }
+
+    fn contribution(&self, account: u16, node: u8, serial: u32) -> io::Result<()> {
+        let given = contribution_book_contribution(self.image(), account, node, serial);
+        println!(self.rt;
+            "contribution {} {} {} {} {} {} {} {} {}",
+            given.refusal,
+            given.record,
+            given.added,
+            u8::from(given.closed),
+            given.amount,
+            given.to_arrears,
+            given.paid_out,
+            given.held,
+            given.retained,
+        )
+    }
+
+    // Asks for a page with so much room. Last are the output's first byte and the one past a page, 255 before; then the page's first 19
+    // lines, where it is accepted.
+    fn page(&self, account: u16, room: usize) -> io::Result<()> {
+        let mut output = [255; PAGE_ROOM];
+        let given = contribution_book_page(
+            self.image(),
+            account,
+            &mut output[..room.min(PAGE_ROOM)],
+        );
+        println!(self.rt;
+            "page {} {} {} {} {}",
+            given.refusal,
+            given.record,
+            given.bytes,
+            output[0],
+            output[PAGE_ROOM - 1],
+        )?;
+        match output.get(..LINES) {
+            Some(lines) if given.refusal == 0 => self.rt.write_all(lines),
+            _ => Ok(()),
+        }
+    }
+
+    // Refused calls on an image of eight entries, with the other node's image.
+    fn refused(&mut self, other: &Host<'a, P>) -> io::Result<()> {
+        let paid = payment(2, 300, 1, 40);
+        let again = payment(1, 300, 8, 40);
+        self.post_into(paid, 23, ROOM)?;
+        self.post(again)?;
+        self.post_into(paid, 24, 239)?;
+        self.post_into(again, 24, 239)?;
+        self.carry_over(other.records(71), 5, ROOM)?;
+        self.carry_over(other.records(72), 2, ROOM)?;
+        self.carry_over(other.records(72), 5, 287)?;
+        self.statement(129, 9)?;
+        self.contribution(129, 3, 1)?;
+        self.contribution(129, 1, 1)?;
+        self.contribution(5, 1, 2)?;
+        self.page(129, 5345)?;
+        self.page(5, 5345)
+    }
+
+    // Every call on an image that is damaged.
+    fn all_refused(&mut self, other: &Host<'a, P>) -> io::Result<()> {
+        self.check()?;
+        self.post(payment(2, 300, 1, 40))?;
+        self.carry_over(other.records(72), 5, ROOM)?;
+        self.statement(5, 9)?;
+        self.contribution(5, 1, 1)?;
+        self.page(5, PAGE_ROOM)
+    }
 }
 
 // Node 1: a contribution, bills, an added customer, a deposit and its return, a payment, the expiry.
-fn first_node(rt: &impl Print) -> io::Result<Host> {
-    let start = fresh();
-    check(rt, start)?;
-    let contributed = post(rt, start, entry(1, 1, 100, 1, 1000, 0, 10, 3))?;
-    let billed = post(rt, contributed, entry(3, 1, 100, 2, 300, 0, 30, 30))?;
-    let refunded = post(rt, billed, entry(2, 1, 200, 3, 0, 1, 8, 3))?;
-    query(rt, refunded, 5, 1, 1)?;
-    let in_arrears = post(rt, refunded, entry(3, 1, 210, 4, 700, 0, 30, 30))?;
-    let deposited = post(rt, in_arrears, entry(5, 1, 100, 5, 5000, 0, 100, 0))?;
-    state(rt, deposited, 5, 3)?;
-    state(rt, deposited, 5, 5)?;
-    let returned = post(rt, deposited, entry(6, 1, 130, 6, 0, 0, 0, 0))?;
-    let paid = post(rt, returned, entry(4, 1, 300, 7, 250, 0, 0, 0))?;
-    state(rt, paid, 5, 6)?;
-    let expired = post(rt, paid, entry(7, 1, 1926, 8, 0, 1, 0, 0))?;
-    query(rt, expired, 5, 1, 1)?;
-    check(rt, expired)?;
-    Ok(expired)
+fn first_node<P: Print>(rt: &P) -> io::Result<Host<'_, P>> {
+    let mut node = Host::fresh(rt);
+    node.check()?;
+    node.post(contribution(1, 100, 1, 1000, 10, 3))?;
+    node.post(bill(1, 100, 2, 300))?;
+    let customer = naming(entry(Kind::AddedCustomer, 1, 200, 3));
+    node.post(Raw {
+        a: 8,
+        b: 3,
+        ..customer
+    })?;
+    node.contribution(5, 1, 1)?;
+    node.post(bill(1, 210, 4, 700))?;
+    let deposit = entry(Kind::Deposit, 1, 100, 5);
+    node.post(Raw {
+        amount: 5000,
+        a: 100,
+        ..deposit
+    })?;
+    node.statement(5, 3)?;
+    node.statement(5, 5)?;
+    node.post(entry(Kind::DepositReturn, 1, 130, 6))?;
+    node.post(payment(1, 300, 7, 250))?;
+    node.statement(5, 6)?;
+    node.post(naming(entry(Kind::Expiry, 1, 1926, 8)))?;
+    node.contribution(5, 1, 1)?;
+    node.check()?;
+    Ok(node)
 }
 
 // Node 2: a payment, a bill and a contribution. No byte past the image is written.
-fn second_node(rt: &impl Print) -> io::Result<Host> {
-    let paid = post(rt, fresh(), entry(4, 2, 300, 1, 40, 0, 0, 0))?;
-    show(rt, paid, 40, 16)?;
-    let billed = post(rt, paid, entry(3, 2, 301, 2, 90, 0, 30, 30))?;
-    post(rt, billed, entry(1, 2, 302, 3, 2000, 0, 20, 1))
-}
-
-// Refused calls on an image of eight entries, with the other node's image.
-fn refused(rt: &impl Print, host: Host, other: Host) -> io::Result<()> {
-    let payment = entry(4, 2, 300, 1, 40, 0, 0, 0);
-    let again = entry(4, 1, 300, 8, 40, 0, 0, 0);
-    post_into(rt, host, payment, 23, ROOM)?;
-    post(rt, host, again)?;
-    post_into(rt, host, payment, 24, 239)?;
-    post_into(rt, host, again, 24, 239)?;
-    carry_into(rt, host, other, 71, 5, ROOM)?;
-    carry_into(rt, host, other, 72, 2, ROOM)?;
-    carry_into(rt, host, other, 72, 5, 287)?;
-    state(rt, host, 129, 9)?;
-    query(rt, host, 129, 3, 1)?;
-    query(rt, host, 129, 1, 1)?;
-    query(rt, host, 5, 1, 2)?;
-    page(rt, host, 129, 5345)?;
-    page(rt, host, 5, 5345)?;
-    Ok(())
-}
-
-// Every call on an image that is damaged.
-fn all_refused(rt: &impl Print, host: Host, other: Host) -> io::Result<()> {
-    check(rt, host)?;
-    post(rt, host, entry(4, 2, 300, 1, 40, 0, 0, 0))?;
-    carry_into(rt, host, other, 72, 5, ROOM)?;
-    state(rt, host, 5, 9)?;
-    query(rt, host, 5, 1, 1)?;
-    page(rt, host, 5, PAGE_ROOM)?;
-    Ok(())
+fn second_node<P: Print>(rt: &P) -> io::Result<Host<'_, P>> {
+    let mut node = Host::fresh(rt);
+    node.post(payment(2, 300, 1, 40))?;
+    node.show(40..56)?;
+    node.post(bill(2, 301, 2, 90))?;
+    node.post(contribution(2, 302, 3, 2000, 20, 1))?;
+    Ok(node)
 }
 
 fn main(rt: HostRuntime) -> io::Result<()> {
-    let host = first_node(&rt)?;
+    let mut host = first_node(&rt)?;
     let other = second_node(&rt)?;
-    refused(&rt, host, other)?;
-    all_refused(&rt, damaged(host, 192, 0), other)?;
-    check(&rt, damaged(host, 0, 0))?;
-    let paid = post(&rt, host, entry(4, 2, 300, 1, 40, 0, 0, 0))?;
-    let carried = carry_into(&rt, paid, other, 72, 5, ROOM)?;
-    state(&rt, carried, 5, 99)?;
-    query(&rt, carried, 5, 2, 3)?;
-    page(&rt, carried, 5, PAGE_ROOM)?;
-    show(&rt, carried, 0, 24)?;
-    show(&rt, carried, 264, 24)?;
-    Ok(())
+    host.refused(&other)?;
+    host.damaged(192, 0).all_refused(&other)?;
+    host.damaged(0, 0).check()?;
+    host.post(payment(2, 300, 1, 40))?;
+    host.carry_over(other.records(72), 5, ROOM)?;
+    host.statement(5, 99)?;
+    host.contribution(5, 2, 3)?;
+    host.page(5, PAGE_ROOM)?;
+    host.show(0..24)?;
+    host.show(264..288)
 }

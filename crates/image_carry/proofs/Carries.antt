@@ -14,11 +14,7 @@ use Rattle.codec.proofs.Records.{length_decode_all}
 use Rattle.book.specs.Posting.{post_of, posts_of}
 use Rattle.book.specs.declared.Book.{Book}
 use Rattle.carry.specs.Carry.{refusals_of, carry_refusal_of, carry_results_of}
-use Rattle.replays.specs.Loaded.{loaded_with, loaded_reply, accepted_load, raw_in}
-use Rattle.replays.specs.Replays.{listed_in, replay_of}
-use Rattle.replays.specs.declared.Loaded.{Loaded}
-use Rattle.replays.specs.declared.LoadAnswer.{LoadAnswer}
-use Rattle.replays.specs.declared.LoadAnswer.TheVariants.{Accepted, Refused}
+use Rattle.loads.specs.Loaded.{raw_in}
 use Rattle.image_carry.specs.Carries.{read_entries, next_of, put_all, accepted_carry, refused_carry, entries_refusal, carry_refusal, carry_into}
 use lib.Dec.{ltb}
 use borrow.Author.Tests.{eq-eqb, ne_eqb, lt-ltb, le-ltb}
@@ -32,28 +28,23 @@ use Rattle.saves.proofs.Saves.{save_in_run, save_no_run, save_size}
 use Rattle.book.specs.Fresh.{entries_most}
 use Rattle.book.specs.Runs.{is_open}
 
--- entries are posted as the records of an image are
-replay_entries : (rs : List Record) (b : Book) (l : List ℕ) (i : ℕ) →
-    replay_of false rs b l i ≡ record { loaded = accepted_load (posts_of b (map raw_in rs)); results = put_all l i (refusals_of b (map raw_in rs)) }
-unfolding replay_of post_of posts_of refusals_of put_all
-replay_entries [] b l i = refl
-replay_entries (r ∷ rs) b l i = replay_entries rs (post_of b r.raw).book (set l i (post_of b r.raw).reply.refusal) (i + 1)
+-- what is left of the entries from a place on: none, or one and those after it
+pub posts_next : (rs rest : List Record) (r : Record) (b : Book) → rs ≡ r ∷ rest → posts_of b (map raw_in rs) ≡ posts_of (post_of b r.raw).book (map raw_in rest)
+unfolding posts_of
+posts_next rs rest r b e = rw e refl
 
-loaded_book : (l : Loaded) → (loaded_reply l).book ≡ l.book
-unfolding loaded_reply
-loaded_book l = by l.answer
-  where
-    by : (a : LoadAnswer) → (loaded_with l.book a).book ≡ l.book
-    by Accepted = refl
-    by (Refused n i) = refl
+pub posts_end : (rs : List Record) (b : Book) → rs ≡ [] → posts_of b (map raw_in rs) ≡ b
+unfolding posts_of
+posts_end rs b e = rw e refl
 
-pub entries_posted : (b : Book) (entries results m : List ℕ) (l : Loaded) →
-    record { loaded = loaded_reply l; results = m } ≡ replay_of false (listed_in entries) b results 0 →
-    (l.book ≡ next_of b entries) × (m ≡ put_all results 0 (refusals_of b (read_entries entries)))
-unfolding read_entries
-entries_posted b entries results m l e =
-    let posted = e ∙ replay_entries (listed_in entries) b results 0 in
-    (sym (loaded_book l) ∙ ap (λ p. p.loaded.book) posted, ap (λ p. p.results) posted)
+pub put_next : (rs rest : List Record) (r : Record) (b : Book) (l : List ℕ) (i : ℕ) → rs ≡ r ∷ rest →
+    put_all l i (refusals_of b (map raw_in rs)) ≡ put_all (set l i (post_of b r.raw).reply.refusal) (i + 1) (refusals_of (post_of b r.raw).book (map raw_in rest))
+unfolding put_all refusals_of
+put_next rs rest r b l i e = rw e refl
+
+pub put_end : (rs : List Record) (b : Book) (l : List ℕ) (i : ℕ) → rs ≡ [] → put_all l i (refusals_of b (map raw_in rs)) ≡ l
+unfolding put_all refusals_of
+put_end rs b l i e = rw e refl
 
 pub length_entries : (entries : List ℕ) → length (read_entries entries) ≡ length entries / record_bytes
 unfolding read_entries

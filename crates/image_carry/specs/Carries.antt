@@ -1,5 +1,5 @@
 -- A carry-over of entries into an image.
-use Rattle.std.specs.Prelude.{ℕ, ◌+◌, ◌/◌, ◌%◌, cond, List, [], ◌∷◌, map, length, set, eqb}
+use Rattle.std.specs.Prelude.{ℕ, ◌+◌, ◌/◌, ◌%◌, cond, List, [], ◌∷◌, map, length, set, eqb, Result, Ok, Err}
 use Rattle.entries.specs.Refusals.{refusal_number}
 use Rattle.entries.specs.declared.refusals.Refusal.TheVariants as no
 use Rattle.entries.specs.declared.raw.Raw.{Raw}
@@ -8,7 +8,8 @@ use Rattle.book.specs.Posting.{posts_of}
 use Rattle.book.specs.declared.Book.{Book}
 use Rattle.carry.specs.Carry.{carry_refusal_of, carry_results_of}
 use Rattle.saves.specs.Saves.{bytes_of, save_of, saved_in}
-use Rattle.replays.specs.Loaded.{LoadedReply, raw_in}
+use Rattle.loads.specs.Loaded.{LoadedReply, raw_in}
+use Rattle.loads.specs.declared.Fault.{Fault}
 use Rattle.entries.specs.Order.{first_refusal}
 use Rattle.image_carry.specs.declared.CarryGiven.{CarryGiven}
 
@@ -17,6 +18,11 @@ refused_carry n faulty = record { refusal = n; «record» = faulty; bytes = 0 }
 
 abbrev pub accepted_carry : ℕ → CarryGiven
 accepted_carry bytes = record { refusal = 0; «record» = 0; bytes = bytes }
+
+-- an answer with the record at fault as what is given
+unfoldable pub carry_given_of : Result ℕ Fault → CarryGiven
+carry_given_of (Err f) = refused_carry (refusal_number f.refusal) f.«record»
+carry_given_of (Ok n) = accepted_carry n
 
 -- what a carry-over gives, and its result list and output at the end
 pub record CarryExit : Type 0 where
@@ -58,7 +64,7 @@ carry_image l entries results output =
     cond (eqb l.refusal 0) (carry_into l.book entries results output)
     (record { given = refused_carry l.refusal l.faulty; results = results; output = output })
 
--- a list with values set one after another from a place on, as far as it goes; no promise of a call cites it
+-- a list with values set one after another from a place on, as far as it goes
 unfoldable pub put_all : List ℕ → ℕ → List ℕ → List ℕ
 put_all l i [] = l
 put_all l i (x ∷ xs) = put_all (set l i x) (i + 1) xs

@@ -1,19 +1,19 @@
 // A carry-over of entries into an image.
 #![tactic(auto)]
 
-ghost use Rattle.std.specs.Prelude.{◌≡◌, ◌+◌, ◌≤◌, min, ltb};
-ghost use Rattle.entries.specs.Refusals.{refusal_number};
+ghost use Rattle.std.specs.Prelude.{◌≡◌, ◌+◌, ◌≤◌, min, set, ltb};
 ghost use Rattle.book.specs.Fresh.{entries_most};
 ghost use Rattle.saves.specs.Saves.{bytes_of};
 ghost use Rattle.loads.specs.Loads.{load_of};
-ghost use Rattle.image_carry.specs.Carries.{next_of, refused_carry, carry_into, carry_image};
+ghost use Rattle.carry.specs.Carry.{refusals_of};
+ghost use Rattle.image_carry.specs.Carries.{read_entries, next_of, put_all, carry_given_of, carry_into, carry_image};
 
-use book::Book;
-use codec::RECORD;
+use book::{Book, Next};
+use codec::{RECORD, Record, records_in};
 use entries::Refusal;
-use loads::{LoadAnswer, load};
-use replays::replay;
-use saves::{SaveAnswer, entry_count, save};
+use loads::{Fault, load};
+use rules::PostingReply;
+use saves::{entry_count, save};
 
 #[repr(C)]
 #[derive(Clone, Copy)]
@@ -25,14 +25,23 @@ pub struct CarryGiven {
     pub bytes: usize,
 }
 
-// Zeros beside the refusal and the image's record at fault.
-fn refused(refusal: Refusal, record: u16) -> CarryGiven
-    ensures { result ≡ refused_carry (refusal_number refusal) «record» }
-{
-    CarryGiven {
-        refusal: refusal.number(),
-        record,
-        bytes: 0,
+impl From<Result<usize, Fault>> for CarryGiven {
+    ghost from_gives = { λ answer given. given ≡ carry_given_of answer };
+
+    #[tactic(auto, unfolding(crate::specs::Carries::carry_given_of))]
+    fn from(answer: Result<usize, Fault>) -> CarryGiven {
+        match answer {
+            Err(Fault { refusal, record }) => CarryGiven {
+                refusal: refusal.into(),
+                record,
+                bytes: 0,
+            },
+            Ok(bytes) => CarryGiven {
+                refusal: 0,
+                record: 0,
+                bytes,
+            },
+        }
     }
 }
 
@@ -40,62 +49,86 @@ fn refused(refusal: Refusal, record: u16) -> CarryGiven
 fn most_after(count: u16, more: usize) -> usize
     ensures { (result ≡ min (min count entries_most + more) entries_most) × (result ≤ entries_most) }
 {
-    let entry_count = entry_count(count) as usize;
-    if more < Book::ENTRIES - entry_count {
-        entry_count + more
-    } else {
-        Book::ENTRIES
+    usize::from(entry_count(count))
+        .saturating_add(more)
+        .min(Book::ENTRIES)
+}
+
+// Writes a result at its place, where the list has it.
+fn put_result(results: &mut [u8], i: usize, number: u8)
+    ensures { results.new ≡ set results.old i number }
+{
+    if i < results.len() {
+        results[i] = number;
+    }
+}
+
+// Posts each entry in turn, and writes its refusal number at the same place of the results, where they have it.
+fn post_all(book: &mut Book, entries: &[u8], results: &mut [u8])
+    ensures book { book.new ≡ next_of book.old entries.now }
+    ensures results { results.new ≡ put_all results.old 0 (refusals_of book.old (read_entries entries.now)) }
+{
+    for (i, bytes) in records_in(entries).iter().enumerate() {
+        let reply = PostingReply::from(book.offer(Record::decode(bytes).raw));
+        put_result(results, i, reply.refusal);
     }
 }
 
 // Whether an output of a length is too short for the image after the entries. Where it has no room for all the entries, they are
 // posted to learn how many are accepted.
-fn too_short(book: Book, entries: &[u8], length: usize) -> bool
+fn too_short(mut book: Book, entries: &[u8], length: usize) -> bool
     ensures { result ≡ ltb length (bytes_of (next_of book entries.now)) }
 {
     let most = most_after(book.count, entries.len() / RECORD);
     if RECORD * (most + 1) <= length {
         return false;
     }
-    // The results are not read.
-    let mut unused = [0u8; 1];
-    let replayed = replay(book, entries, false, &mut unused);
-    let entry_count = entry_count(replayed.book.count);
-    length < RECORD * (entry_count as usize + 1)
+    post_all(&mut book, entries, &mut []);
+    length < RECORD * (usize::from(entry_count(book.count)) + 1)
 }
 
-// A carry-over into a book, which is then saved.
-#[tactic(auto, unfolding(saves::specs::Saves::save_reply_of))]
-fn carry_into(book: Book, entries: &[u8], results: &mut [u8], output: &mut [u8]) -> CarryGiven
-    ensures { (record { given = result; results = results.new; output = output.new }) ≡ carry_into book entries.now results.old output.old }
+// A carry-over into a book, which is then saved: the bytes written.
+#[tactic(auto, unfolding(saves::specs::Saves::save_reply_of, crate::specs::Carries::carry_given_of))]
+fn carry_into(
+    mut book: Book,
+    entries: &[u8],
+    results: &mut [u8],
+    output: &mut [u8],
+) -> Result<usize, Fault>
+    ensures { (record { given = carry_given_of result; results = results.new; output = output.new }) ≡ carry_into book entries.now results.old output.old }
 {
     if entries.len() % RECORD != 0 {
-        return refused(Refusal::ImageLength, 0);
+        return Err(Refusal::ImageLength.into());
     }
     if results.len() < entries.len() / RECORD {
-        return refused(Refusal::ResultsShort, 0);
+        return Err(Refusal::ResultsShort.into());
     }
-    let run = book.run;
-    if run.is_open() {
-        return refused(Refusal::SaveInRun, 0);
+    if book.run.is_open() {
+        return Err(Refusal::SaveInRun.into());
     }
     if too_short(book, entries, output.len()) {
-        return refused(Refusal::BufferShort, 0);
+        return Err(Refusal::BufferShort.into());
     }
-    let replayed = replay(book, entries, false, results);
-    let next = replayed.book;
-    match save(next, output) {
-        SaveAnswer::Length(bytes) => CarryGiven {
-            refusal: 0,
-            record: 0,
-            bytes,
-        },
-        SaveAnswer::Refused(refusal) => refused(refusal, 0),
-    }
+    post_all(&mut book, entries, results);
+    Ok(save(&book, output)?)
+}
+
+// A carry-over into the book of an image.
+#[tactic(auto, using(entries::proofs::RefusalsLaws::is_refusal), unfolding(loads::specs::Loaded::loaded_reply, crate::specs::Carries::carry_given_of, crate::specs::Carries::carry_image))]
+fn carry_answer(
+    image: &[u8],
+    entries: &[u8],
+    results: &mut [u8],
+    output: &mut [u8],
+) -> Result<usize, Fault>
+    ensures { (record { given = carry_given_of result; results = results.new; output = output.new }) ≡ carry_image (load_of image.now) entries.now results.old output.old }
+{
+    let Next { book, answer } = load(image);
+    answer?;
+    carry_into(book, entries, results, output)
 }
 
 // Carries entries over into an image.
-#[tactic(auto, unfolding(replays::specs::Loaded::loaded_reply, crate::specs::Carries::carry_image))]
 pub fn carry_image(
     image: &[u8],
     entries: &[u8],
@@ -104,13 +137,5 @@ pub fn carry_image(
 ) -> CarryGiven
     ensures { (record { given = result; results = results.new; output = output.new }) ≡ carry_image (load_of image.now) entries.now results.old output.old }
 {
-    let loaded = load(image);
-    let answer = loaded.answer;
-    match answer {
-        LoadAnswer::Accepted => {
-            let book = loaded.book;
-            carry_into(book, entries, results, output)
-        }
-        LoadAnswer::Refused { refusal, record } => refused(refusal, record),
-    }
+    carry_answer(image, entries, results, output).into()
 }

@@ -1,17 +1,19 @@
 -- A posting to an image.
-use Rattle.std.specs.Prelude.{ℕ, cond, List, [], ◌∷◌, length, eqb}
+use Rattle.std.specs.Prelude.{ℕ, cond, List, [], ◌∷◌, length, eqb, Result, Ok, Err}
 use Rattle.entries.specs.Refusals.{refusal_number}
 use Rattle.entries.specs.declared.refusals.Refusal.TheVariants as no
 use Rattle.entries.specs.declared.raw.Raw.{Raw}
-use Rattle.rules.specs.Answers.{posting_reply}
+use Rattle.rules.specs.Answers.{posting_reply, posting_reply_of}
 use Rattle.rules.specs.declared.answers.PostingReply.{PostingReply}
 use Rattle.codec.specs.Records.{record_bytes, record_in}
 use Rattle.book.specs.Posting.{post_of}
 use Rattle.book.specs.declared.Book.{Book}
 use Rattle.saves.specs.Saves.{bytes_of, save_of, saved_in}
-use Rattle.replays.specs.Loaded.{LoadedReply}
+use Rattle.loads.specs.Loaded.{LoadedReply}
+use Rattle.loads.specs.declared.Fault.{Fault}
 use Rattle.entries.specs.Order.{first_refusal}
 use Rattle.image_post.specs.declared.PostingGiven.{PostingGiven}
+use Rattle.image_post.specs.declared.Written.{Written}
 
 -- an answer, the image's record at fault, and the length of the image written
 abbrev pub posting_given : PostingReply → ℕ → ℕ → PostingGiven
@@ -29,6 +31,11 @@ posting_given r faulty bytes =
 
 abbrev pub refused_posting : ℕ → ℕ → PostingGiven
 refused_posting n faulty = posting_given (posting_reply n 0 0 0 0 0) faulty 0
+
+-- an answer with the record at fault as what is given
+unfoldable pub posting_given_of : Result Written Fault → PostingGiven
+posting_given_of (Err f) = refused_posting (refusal_number f.refusal) f.«record»
+posting_given_of (Ok w) = posting_given (posting_reply_of (Ok w.accepted)) 0 w.bytes
 
 -- what a posting gives, and its output at the end
 pub record PostingExit : Type 0 where

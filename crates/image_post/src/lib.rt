@@ -2,16 +2,15 @@
 #![tactic(auto)]
 
 ghost use Rattle.std.specs.Prelude.{◌≡◌};
-ghost use Rattle.entries.specs.Refusals.{refusal_number};
 ghost use Rattle.loads.specs.Loads.{load_of};
-ghost use Rattle.image_post.specs.Postings.{posting_given, refused_posting, post_into, post_image};
+ghost use Rattle.image_post.specs.Postings.{posting_given, posting_given_of, post_into, post_image};
 
-use book::Book;
+use book::{Book, Next};
 use codec::{RECORD, record_in};
 use entries::Refusal;
-use loads::{LoadAnswer, load};
-use rules::{PostingAnswer, PostingReply};
-use saves::{SaveAnswer, save};
+use loads::{Fault, load};
+use rules::{Accepted, PostingReply};
+use saves::save;
 
 #[repr(C)]
 #[derive(Clone, Copy)]
@@ -30,6 +29,12 @@ pub struct PostingGiven {
     pub interest: u64,
 }
 
+// What an accepted posting answers, and the length of the image written.
+struct Written {
+    accepted: Accepted,
+    bytes: usize,
+}
+
 fn posting_given(reply: PostingReply, record: u16, bytes: usize) -> PostingGiven
     ensures { result ≡ posting_given reply «record» bytes }
 {
@@ -45,48 +50,44 @@ fn posting_given(reply: PostingReply, record: u16, bytes: usize) -> PostingGiven
     }
 }
 
-// Zeros beside the refusal and the image's record at fault.
-#[tactic(auto, unfolding(rules::specs::Answers::posting_reply_of))]
-fn refused(refusal: Refusal, record: u16) -> PostingGiven
-    ensures { result ≡ refused_posting (refusal_number refusal) «record» }
-{
-    posting_given(PostingAnswer::Refused(refusal).reply(), record, 0)
+impl From<Result<Written, Fault>> for PostingGiven {
+    ghost from_gives = { λ answer given. given ≡ posting_given_of answer };
+
+    #[tactic(auto, unfolding(rules::specs::Answers::posting_reply_of, crate::specs::Postings::posting_given_of))]
+    fn from(answer: Result<Written, Fault>) -> PostingGiven {
+        match answer {
+            Err(Fault { refusal, record }) => posting_given(Err(refusal).into(), record, 0),
+            Ok(Written { accepted, bytes }) => posting_given(Ok(accepted).into(), 0, bytes),
+        }
+    }
 }
 
 // A posting to a book, which is then saved.
-#[tactic(auto, using(crate::proofs::Postings::post_17, crate::proofs::Postings::post_refused), unfolding(rules::specs::Answers::posting_reply_of))]
-fn post_into(book: Book, entry: &[u8], output: &mut [u8]) -> PostingGiven
-    ensures { (record { given = result; output = output.new }) ≡ post_into book entry.now output.old }
+#[tactic(auto, using(crate::proofs::Postings::post_17, crate::proofs::Postings::post_refused), unfolding(rules::specs::Answers::posting_reply_of, crate::specs::Postings::posting_given_of))]
+fn post_into(mut book: Book, entry: &[u8], output: &mut [u8]) -> Result<Written, Fault>
+    ensures { (record { given = posting_given_of result; output = output.new }) ≡ post_into book entry.now output.old }
 {
     if entry.len() != RECORD {
-        return refused(Refusal::ImageLength, 0);
+        return Err(Refusal::ImageLength.into());
     }
-    let record = record_in(entry, 0);
-    let raw = record.raw;
-    let posted = book.post(raw);
-    let answer = posted.answer;
-    if let PostingAnswer::Refused(refusal) = answer {
-        return refused(refusal, 0);
-    }
-    let next = posted.book;
-    match save(next, output) {
-        SaveAnswer::Length(bytes) => posting_given(answer.reply(), 0, bytes),
-        SaveAnswer::Refused(refusal) => refused(refusal, 0),
-    }
+    let accepted = book.offer(record_in(entry, 0).raw)?;
+    let bytes = save(&book, output)?;
+    Ok(Written { accepted, bytes })
+}
+
+// A posting to the book of an image.
+#[tactic(auto, using(entries::proofs::RefusalsLaws::is_refusal), unfolding(loads::specs::Loaded::loaded_reply, crate::specs::Postings::posting_given_of, crate::specs::Postings::post_image))]
+fn post_answer(image: &[u8], entry: &[u8], output: &mut [u8]) -> Result<Written, Fault>
+    ensures { (record { given = posting_given_of result; output = output.new }) ≡ post_image (load_of image.now) entry.now output.old }
+{
+    let Next { book, answer } = load(image);
+    answer?;
+    post_into(book, entry, output)
 }
 
 // Posts an entry to an image.
-#[tactic(auto, using(entries::proofs::RefusalsLaws::is_refusal), unfolding(replays::specs::Loaded::loaded_reply, crate::specs::Postings::post_image))]
 pub fn post_image(image: &[u8], entry: &[u8], output: &mut [u8]) -> PostingGiven
     ensures { (record { given = result; output = output.new }) ≡ post_image (load_of image.now) entry.now output.old }
 {
-    let loaded = load(image);
-    let answer = loaded.answer;
-    match answer {
-        LoadAnswer::Accepted => {
-            let book = loaded.book;
-            post_into(book, entry, output)
-        }
-        LoadAnswer::Refused { refusal, record } => refused(refusal, record),
-    }
+    post_answer(image, entry, output).into()
 }

@@ -1,10 +1,13 @@
 -- The statement and the contribution query of an image.
-use Rattle.std.specs.Prelude.{ℕ, false, cond, eqb}
-use Rattle.replays.specs.Loaded.{LoadedReply}
-use Rattle.queries.specs.Statements.{statement_of}
-use Rattle.queries.specs.Contributions.{contribution_query_of}
+use Rattle.std.specs.Prelude.{ℕ, false, cond, eqb, Result, Ok, Err}
+use Rattle.loads.specs.Loaded.{LoadedReply}
+use Rattle.loads.specs.declared.Fault.{Fault}
+use Rattle.queries.specs.Statements.{statement_reply_of, statement_of}
+use Rattle.queries.specs.Contributions.{contribution_reply_of, contribution_query_of}
 use Rattle.queries.specs.Replies.{statement_reply, contribution_reply}
+use Rattle.queries.specs.declared.statements.StatementFigures.{StatementFigures}
 use Rattle.queries.specs.declared.statements.StatementReply.{StatementReply}
+use Rattle.queries.specs.declared.contributions.ContributionFigures.{ContributionFigures}
 use Rattle.queries.specs.declared.contributions.ContributionReply.{ContributionReply}
 use Rattle.image_read.specs.declared.reads.StatementGiven.{StatementGiven}
 use Rattle.image_read.specs.declared.reads.ContributionGiven.{ContributionGiven}
@@ -25,6 +28,11 @@ statement_given r faulty =
       payments = r.payments;
     }
 
+-- an answer with the record at fault as what is given
+unfoldable pub statement_given_of : Result StatementFigures Fault → StatementGiven
+statement_given_of (Err f) = statement_given (statement_reply_of (Err f.refusal)) f.«record»
+statement_given_of (Ok s) = statement_given (statement_reply_of (Ok s)) 0
+
 -- a refused image: the number, its record, and otherwise zeros; else the statement
 unfoldable pub statement_image : LoadedReply → ℕ → ℕ → StatementGiven
 statement_image l account allowance =
@@ -44,6 +52,10 @@ contribution_given r faulty =
       held = r.held;
       retained = r.retained;
     }
+
+unfoldable pub contribution_given_of : Result ContributionFigures Fault → ContributionGiven
+contribution_given_of (Err f) = contribution_given (contribution_reply_of (Err f.refusal)) f.«record»
+contribution_given_of (Ok s) = contribution_given (contribution_reply_of (Ok s)) 0
 
 -- a refused image: the number, its record, and otherwise zeros; else the contribution query
 unfoldable pub contribution_image : LoadedReply → ℕ → ℕ → ℕ → ContributionGiven

@@ -1,9 +1,10 @@
 // A check of an image.
 ghost use Rattle.std.specs.Prelude.{◌≡◌};
 ghost use Rattle.loads.specs.Loads.{load_of};
-ghost use Rattle.image_read.specs.Checks.{check_given};
+ghost use Rattle.image_read.specs.Checks.{check_given_of, check_given};
 
-use loads::{LoadAnswer, load};
+use book::Next;
+use loads::{Fault, load};
 
 #[repr(C)]
 #[derive(Clone, Copy)]
@@ -15,23 +16,39 @@ pub struct CheckGiven {
     pub entries: u16,
 }
 
+impl From<Result<u16, Fault>> for CheckGiven {
+    ghost from_gives = { λ answer given. given ≡ check_given_of answer };
+
+    #[tactic(auto, unfolding(crate::specs::Checks::check_given_of))]
+    fn from(answer: Result<u16, Fault>) -> CheckGiven {
+        match answer {
+            Err(Fault { refusal, record }) => CheckGiven {
+                refusal: refusal.into(),
+                record,
+                entries: 0,
+            },
+            Ok(entries) => CheckGiven {
+                refusal: 0,
+                record: 0,
+                entries,
+            },
+        }
+    }
+}
+
+// How many entries the book of an image has.
+#[tactic(auto, unfolding(loads::specs::Loaded::loaded_reply, crate::specs::Checks::check_given_of))]
+fn entries_of(image: &[u8]) -> Result<u16, Fault>
+    ensures { check_given_of result ≡ check_given (load_of image.now) }
+{
+    let Next { book, answer } = load(image);
+    answer?;
+    Ok(book.count)
+}
+
 // Checks an image, and counts its entries.
-#[tactic(auto, unfolding(replays::specs::Loaded::loaded_reply))]
 pub fn check_image(image: &[u8]) -> CheckGiven
     ensures { result ≡ check_given (load_of image.now) }
 {
-    let loaded = load(image);
-    let answer = loaded.answer;
-    match answer {
-        LoadAnswer::Accepted => CheckGiven {
-            refusal: 0,
-            record: 0,
-            entries: loaded.book.count,
-        },
-        LoadAnswer::Refused { refusal, record } => CheckGiven {
-            refusal: refusal.number(),
-            record,
-            entries: loaded.book.count,
-        },
-    }
+    entries_of(image).into()
 }

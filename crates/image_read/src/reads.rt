@@ -1,16 +1,14 @@
 // The statement and the contribution query of an image.
 ghost use Rattle.std.specs.Prelude.{◌≡◌};
 ghost use Rattle.loads.specs.Loads.{load_of};
-ghost use Rattle.image_read.specs.Reads.{statement_given, statement_image, contribution_given, contribution_image};
+ghost use Rattle.image_read.specs.Reads.{statement_given_of, statement_image, contribution_given_of, contribution_image};
 
-use loads::{LoadAnswer, load};
-use queries::{
-    ContributionAnswer, ContributionReply, StatementAnswer, StatementReply, contribution_query,
-    statement,
-};
+use book::Next;
+use loads::{Fault, load};
+use queries::{ContributionFigures, StatementFigures, contribution_query, statement};
 
 #[repr(C)]
-#[derive(Clone, Copy)]
+#[derive(Clone, Copy, Default)]
 pub struct StatementGiven {
     pub refusal: u8,
     // The image's record at fault, 0 where none is.
@@ -26,7 +24,7 @@ pub struct StatementGiven {
 }
 
 #[repr(C)]
-#[derive(Clone, Copy)]
+#[derive(Clone, Copy, Default)]
 pub struct ContributionGiven {
     pub refusal: u8,
     // The image's record at fault, 0 where none is.
@@ -41,71 +39,94 @@ pub struct ContributionGiven {
     pub retained: u64,
 }
 
-fn statement_given(reply: StatementReply, record: u16) -> StatementGiven
-    ensures { result ≡ statement_given reply «record» }
-{
-    StatementGiven {
-        refusal: reply.refusal,
-        record,
-        links_read: reply.links_read,
-        complete: reply.complete,
-        arrears: reply.arrears,
-        credit: reply.credit,
-        deposit: reply.deposit,
-        held: reply.held,
-        bills: reply.bills,
-        payments: reply.payments,
+impl From<Result<StatementFigures, Fault>> for StatementGiven {
+    ghost from_gives = { λ answer given. given ≡ statement_given_of answer };
+
+    #[tactic(auto, unfolding(queries::specs::Statements::statement_reply_of, crate::specs::Reads::statement_given_of))]
+    fn from(answer: Result<StatementFigures, Fault>) -> StatementGiven {
+        match answer {
+            Err(Fault { refusal, record }) => StatementGiven {
+                refusal: refusal.into(),
+                record,
+                ..StatementGiven::default()
+            },
+            Ok(figures) => StatementGiven {
+                refusal: 0,
+                record: 0,
+                links_read: figures.links_read,
+                complete: figures.complete,
+                arrears: figures.arrears.0,
+                credit: figures.credit.0,
+                deposit: figures.deposit.0,
+                held: figures.held.0,
+                bills: figures.bills.0,
+                payments: figures.payments.0,
+            },
+        }
     }
+}
+
+// The figures of the account's statement.
+#[tactic(auto, using(entries::proofs::RefusalsLaws::is_refusal), unfolding(loads::specs::Loaded::loaded_reply, queries::specs::Statements::statement_reply_of, crate::specs::Reads::statement_given_of, crate::specs::Reads::statement_image))]
+fn statement_figures(image: &[u8], account: u16, allowance: u64) -> Result<StatementFigures, Fault>
+    ensures { statement_given_of result ≡ statement_image (load_of image.now) account allowance }
+{
+    let Next { book, answer } = load(image);
+    answer?;
+    Ok(statement(&book, account, allowance)?)
 }
 
 // The statement of an account of an image.
-#[tactic(auto, using(entries::proofs::RefusalsLaws::is_refusal), unfolding(replays::specs::Loaded::loaded_reply, queries::specs::Statements::statement_reply_of, crate::specs::Reads::statement_image))]
 pub fn statement_image(image: &[u8], account: u16, allowance: u64) -> StatementGiven
     ensures { result ≡ statement_image (load_of image.now) account allowance }
 {
-    let loaded = load(image);
-    let answer = loaded.answer;
-    match answer {
-        LoadAnswer::Accepted => {
-            let book = loaded.book;
-            statement_given(statement(book, account, allowance).reply(), 0)
-        }
-        LoadAnswer::Refused { refusal, record } => {
-            statement_given(StatementAnswer::Refused(refusal).reply(), record)
+    statement_figures(image, account, allowance).into()
+}
+
+impl From<Result<ContributionFigures, Fault>> for ContributionGiven {
+    ghost from_gives = { λ answer given. given ≡ contribution_given_of answer };
+
+    #[tactic(auto, unfolding(queries::specs::Contributions::contribution_reply_of, crate::specs::Reads::contribution_given_of))]
+    fn from(answer: Result<ContributionFigures, Fault>) -> ContributionGiven {
+        match answer {
+            Err(Fault { refusal, record }) => ContributionGiven {
+                refusal: refusal.into(),
+                record,
+                ..ContributionGiven::default()
+            },
+            Ok(figures) => ContributionGiven {
+                refusal: 0,
+                record: 0,
+                added: figures.added,
+                closed: figures.closed,
+                amount: figures.amount.0,
+                to_arrears: figures.to_arrears.0,
+                paid_out: figures.paid_out.0,
+                held: figures.held.0,
+                retained: figures.retained.0,
+            },
         }
     }
 }
 
-fn contribution_given(reply: ContributionReply, record: u16) -> ContributionGiven
-    ensures { result ≡ contribution_given reply «record» }
+// The figures of the contribution.
+#[tactic(auto, using(entries::proofs::RefusalsLaws::is_refusal), unfolding(loads::specs::Loaded::loaded_reply, queries::specs::Contributions::contribution_reply_of, crate::specs::Reads::contribution_given_of, crate::specs::Reads::contribution_image))]
+fn contribution_figures(
+    image: &[u8],
+    account: u16,
+    node: u8,
+    serial: u32,
+) -> Result<ContributionFigures, Fault>
+    ensures { contribution_given_of result ≡ contribution_image (load_of image.now) account node serial }
 {
-    ContributionGiven {
-        refusal: reply.refusal,
-        record,
-        added: reply.added,
-        closed: reply.closed,
-        amount: reply.amount,
-        to_arrears: reply.to_arrears,
-        paid_out: reply.paid_out,
-        held: reply.held,
-        retained: reply.retained,
-    }
+    let Next { book, answer } = load(image);
+    answer?;
+    Ok(contribution_query(&book, account, node, serial)?)
 }
 
 // What is known of a contribution of an image.
-#[tactic(auto, using(entries::proofs::RefusalsLaws::is_refusal), unfolding(replays::specs::Loaded::loaded_reply, queries::specs::Contributions::contribution_reply_of, crate::specs::Reads::contribution_image))]
 pub fn contribution_image(image: &[u8], account: u16, node: u8, serial: u32) -> ContributionGiven
     ensures { result ≡ contribution_image (load_of image.now) account node serial }
 {
-    let loaded = load(image);
-    let answer = loaded.answer;
-    match answer {
-        LoadAnswer::Accepted => {
-            let book = loaded.book;
-            contribution_given(contribution_query(book, account, node, serial).reply(), 0)
-        }
-        LoadAnswer::Refused { refusal, record } => {
-            contribution_given(ContributionAnswer::Refused(refusal).reply(), record)
-        }
-    }
+    contribution_figures(image, account, node, serial).into()
 }

@@ -1,55 +1,46 @@
 -- Laws of a load: its beginning, record after record, and that it records those of its image in turn.
-use Prim.Native.Nat.{ℕ, ◌+◌, ◌-◌, ◌/◌, ◌<◌, ◌≤◌}
+use Prim.Native.Nat.{ℕ, ◌+◌, ◌-◌, ◌/◌, ◌≤◌}
 use mathlib.Core.Path.{◌≡◌, refl, ap, sym, ◌∙◌}
-use mathlib.Core.Bool.{Bool, true, false, cond, not}
-use mathlib.Core.List.{List, [], ◌∷◌, ◌++◌}
+use mathlib.Core.Bool.{Bool, true, false, cond}
+use mathlib.Core.List.{List, [], ◌∷◌, ◌++◌, map}
 use native.Mathlib.Omega.{arith}
 use lib.Dec.{eqb}
+use lib.ListN.{length, take, drop, length-drop, length-map}
+use lib.Seq.{take_all}
 use borrow.Author.Tests.{eq-eqb, eqb-true, eqb-false}
-use Rattle.entries.specs.Refusals.{refusal_number, decided_of}
-use Rattle.entries.specs.declared.arrivals.Arrival.TheVariants.{Recorded}
+use Rattle.std.specs.Prelude.{Ok, Err}
+use Rattle.entries.specs.Refusals.{refusal_number, Check, decided_of}
 use Rattle.entries.specs.declared.raw.Raw.{Raw}
 use Rattle.entries.specs.declared.refusals.Refusal.{Refusal}
 use Rattle.entries.specs.declared.refusals.Refusal.TheVariants as no
-use Rattle.entries.specs.declared.refusals.Check.{Check}
-use Rattle.entries.specs.declared.refusals.Check.TheVariants as check
-use Rattle.entries.proofs.RefusalsLaws.{refusal_above}
+use Rattle.entries.proofs.RefusalsLaws.{refusal_above, is_refusal}
+use Rattle.codec.specs.Records.{record_bytes, decode_record, decode_all}
+use Rattle.codec.proofs.Records.{length_decode_all}
 use Rattle.codec.specs.Headers.{check_of, count_in}
 use Rattle.codec.specs.declared.Record.{Record}
-use Rattle.book.specs.Fresh.{fresh_book, entries_most}
-use Rattle.book.specs.Posting.{account_at, enter_of, record_of, stored_of, decided_book, decision_of}
-use Rattle.book.specs.declared.Book.{Book}
-use Rattle.replays.specs.Loaded.{LoadedReply, accepted_load, refused_load, record_refusal}
-use Rattle.loads.specs.Loads.{load_all, records_in, load_of}
-use native.Mathlib.Nat.{min-eq_left}
-use lib.ListN.{length, take, drop, set, length-drop}
-use lib.Seq.{take_all}
-use Rattle.entries.specs.Data.{one_more}
-use Rattle.rules.specs.Answers.{posting_reply_of}
-use Rattle.changes.specs.Changes.{answer_of}
-use Rattle.changes.specs.declared.Decision.{Decision}
-use Rattle.changes.specs.declared.Decision.TheVariants.{Refused, Accepted}
-use Rattle.codec.specs.Records.{record_bytes, decode_all}
 use Rattle.codec.proofs.Headers.{checked}
-use Rattle.book.proofs.Posting.{room}
-use Rattle.replays.specs.Replays.{ReplayExit, listed_in, replay_of}
+use Rattle.book.specs.Fresh.{fresh_book, entries_most}
+use Rattle.book.specs.Posting.{account_at, record_of}
+use Rattle.book.specs.declared.Book.{Book}
+use Rattle.loads.specs.Loaded.{LoadedReply, accepted_load, refused_load, record_refusal}
+use Rattle.loads.specs.Loads.{load_all, records_in, load_of}
 
-pub load_refused : (s : List ℕ) (n : Refusal) → check_of s ≡ check.Refused n → load_of s ≡ refused_load (refusal_number n) 0
+pub load_refused : (s : List ℕ) (n : Refusal) → check_of s ≡ Err n → load_of s ≡ refused_load (refusal_number n) 0
 unfolding load_of decided_of
 load_refused s n e = rw e
 
-pub load_begins : (s : List ℕ) → check_of s ≡ check.Passed → load_of s ≡ load_all (records_in s) fresh_book 1
+pub load_begins : (s : List ℕ) → check_of s ≡ Ok tt → load_of s ≡ load_all (records_in s) fresh_book 1
 unfolding load_of decided_of
 load_begins s e = rw e
 
 -- an image that is not refused passes the checks
-pub load_checked : (l : List ℕ) → (load_of l).refusal ≡ 0 → check_of l ≡ check.Passed
+pub load_checked : (l : List ℕ) → (load_of l).refusal ≡ 0 → check_of l ≡ Ok tt
 unfolding load_of decided_of
 load_checked l e = by (check_of l) refl e
   where
-    by : (c : Check) → check_of l ≡ c → (decided_of c (λ n. refused_load (refusal_number n) 0) (load_all (records_in l) fresh_book 1)).refusal ≡ 0 → check_of l ≡ check.Passed
-    by check.Passed p h = p
-    by (check.Refused n) p h = absurd (omega (arith, refusal_above n))
+    by : (c : Check) → check_of l ≡ c → (decided_of c (λ n. refused_load (refusal_number n) 0) (load_all (records_in l) fresh_book 1)).refusal ≡ 0 → check_of l ≡ Ok tt
+    by (Ok x) p h = p
+    by (Err n) p h = absurd (omega (arith, refusal_above n))
 
 -- RECORDS ONE AFTER ANOTHER
 
@@ -87,47 +78,35 @@ load_more (q ∷ rs) r begun b i e h = by (eqb (record_refusal begun q) 0) refl 
     by true p more e h = more e h
     by false p more e h = absurd (eqb-false _ 0 p (ap (λ (x : LoadedReply). x.refusal) e))
 
--- an accepted entry found room, and counts one up
-record_counts : (b : Book) (r : Raw) → (record_of b r).reply.refusal ≡ 0 → (b.count < entries_most) × ((record_of b r).book.count ≡ b.count + 1)
-unfolding enter_of decided_book stored_of answer_of posting_reply_of
-record_counts b r = go (decision_of Recorded b r) refl
-  where
-    go : (o : Decision) → decision_of Recorded b r ≡ o → (posting_reply_of (answer_of o (b.count + 1))).refusal ≡ 0 →
-        (b.count < entries_most) × ((decided_book b r o).count ≡ b.count + 1)
-    go (Refused n) d e = absurd (omega (arith, refusal_above n))
-    go (Accepted c) d e = (room Recorded b r c d, refl)
+-- the records behind the header of an image that passes the checks: those of the image, and at most 1,024
+module _ (s : List ℕ) (rs : List (List ℕ)) (e : check_of s ≡ Ok tt)
+    (h : let behind = take (length s - record_bytes) (drop record_bytes s) in map decode_record rs ≡ decode_all (length behind / record_bytes) behind) where
+  behind : map decode_record rs ≡ records_in s
+  behind =
+      let sized = (checked s e).sized in
+      let whole = take_all (length s - record_bytes) (drop record_bytes s) (simp length-drop (omega arith)) in
+      let n : length (drop record_bytes s) / record_bytes ≡ count_in s = simp length-drop (omega arith) in
+      rw whole at h ∙ ap (λ n. decode_all n (drop record_bytes s)) n
 
--- the records of an image
-replay_records : (rs : List Record) (b : Book) (l : List ℕ) (i : ℕ) → b.count ≤ entries_most → (replay_of true rs b l i).loaded ≡ load_all rs b (b.count + 1)
-unfolding replay_of load_all
-replay_records [] b l i g = refl
-replay_records (r ∷ rs) b l i g =
-    by (eqb (record_refusal b r) 0) refl (replay_records rs (record_of b r.raw).book (set l i (record_of b r.raw).reply.refusal) (i + 1))
-  where
-    next : Book
-    next = (record_of b r.raw).book
+  pub behind_begin : (b : Book) → b ≡ fresh_book → load_all (map decode_record rs) b 1 ≡ load_of s
+  behind_begin b fresh = rw (behind, fresh) (sym (load_begins s e))
 
-    results : List ℕ
-    results = set l i (record_of b r.raw).reply.refusal
+  pub behind_few : length rs ≤ entries_most
+  behind_few =
+      let known = checked s e in
+      omega (arith, known.sized, known.short, length-map rs decode_record, ap length behind, length_decode_all (count_in s) (drop record_bytes s))
 
-    rest : ReplayExit
-    rest = replay_of true rs next results (i + 1)
+-- a record that is refused, by n, ends a load, and one that is not leaves the others
+pub record_stops : (rs rest : List Record) (r : Record) (b : Book) (i : ℕ) (n : Refusal) → rs ≡ r ∷ rest → record_refusal b r ≡ refusal_number n →
+    load_all rs b i ≡ refused_load (refusal_number n) i
+unfolding load_all
+record_stops rs rest r b i n e stops = rw (e, stops, is_refusal n) refl
 
-    by : (t : Bool) → eqb (record_refusal b r) 0 ≡ t → (next.count ≤ entries_most → rest.loaded ≡ load_all rs next (next.count + 1)) →
-        (cond (not t) (record { loaded = refused_load (record_refusal b r) (one_more b.count); results = results }) rest).loaded ≡
-        cond t (load_all rs next (b.count + 1 + 1)) (refused_load (record_refusal b r) (b.count + 1))
-    by true p again =
-        let step = record_counts b r.raw (stop_none b r (eqb-true (record_refusal b r) 0 p)).0 in
-        again (omega arith) ∙ ap (λ n. load_all rs next (n + 1)) step.1
-    by false p again = ap (refused_load (record_refusal b r)) (min-eq_left (omega arith))
+pub record_goes_on : (rs rest : List Record) (r : Record) (b : Book) (i : ℕ) → rs ≡ r ∷ rest → record_refusal b r ≡ 0 →
+    load_all rs b i ≡ load_all rest (record_of b r.raw).book (i + 1)
+unfolding load_all
+record_goes_on rs rest r b i e goes = rw (e, eq-eqb (record_refusal b r) 0 goes) refl
 
--- of an image that passes the checks, what stands behind the header
-pub replay_loads : (s l : List ℕ) (b : Book) → check_of s ≡ check.Passed → b ≡ fresh_book →
-    (replay_of true (listed_in (take (length s - record_bytes) (drop record_bytes s))) b l 0).loaded ≡ load_of s
-unfolding fresh_book
-replay_loads s l b e fresh =
-    let sized = (checked s e).sized in
-    let whole = take_all (length s - record_bytes) (drop record_bytes s) (simp length-drop (omega arith)) in
-    let n : length (drop record_bytes s) / record_bytes ≡ count_in s = simp length-drop (omega arith) in
-    rw (whole, fresh) (replay_records (listed_in (drop record_bytes s)) fresh_book l 0 (omega arith)) ∙
-    ap (λ n. load_all (decode_all n (drop record_bytes s)) fresh_book 1) n ∙ sym (load_begins s e)
+pub none_left : (rs : List Record) (b : Book) (i : ℕ) → rs ≡ [] → load_all rs b i ≡ accepted_load b
+unfolding load_all
+none_left rs b i e = rw e refl

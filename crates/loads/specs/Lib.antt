@@ -1,2 +1,3 @@
+pub mod Loaded
 pub mod Loads
 pub mod Longest

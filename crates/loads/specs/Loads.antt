@@ -7,7 +7,7 @@ use Rattle.codec.specs.declared.Record.{Record}
 use Rattle.book.specs.Fresh.{fresh_book}
 use Rattle.book.specs.Posting.{record_of}
 use Rattle.book.specs.declared.Book.{Book}
-use Rattle.replays.specs.Loaded.{LoadedReply, accepted_load, refused_load, record_refusal}
+use Rattle.loads.specs.Loaded.{LoadedReply, accepted_load, refused_load, record_refusal}
 
 -- record after record from record i on; the first refusal ends it
 unfoldable pub load_all : List Record → Book → ℕ → LoadedReply

@@ -1,26 +1,12 @@
 -- The law of rounding, and what the code's remainder says of it.
-use Prim.Native.Nat.{ℕ, zero, suc, ◌+◌, ◌-◌, ◌*◌, ◌/◌, ◌%◌, ◌<◌, ◌≤◌}
-use mathlib.Core.Path.{◌≡◌, refl, ap, ◌∙◌}
-use mathlib.Core.Bool.{Bool, true, false}
-use lib.Dec.{ltb}
-use borrow.Author.Tests.{ltb-true, ltb-false}
-use native.Mathlib.Nat.{le-div_iff_mul-le, div-lt_iff_lt-mul, add-mul, one-mul, mul_left_comm, div-add-mod', mod-lt, div-zero, mul-le-mul_right, div-mul-le_self, lt-div-mul-add}
+use Prim.Native.Nat.{ℕ, ◌+◌, ◌-◌, ◌*◌, ◌/◌, ◌%◌, ◌<◌, ◌≤◌}
+use mathlib.Core.Path.{◌≡◌, ap, ◌∙◌}
+use native.Mathlib.Nat.{le-div_iff_mul-le, div-eq_of_lt-le, add-mul, one-mul, mul_left_comm, div-add-mod', mod-lt, div-zero, mul-le-mul_right, div-mul-le_self, lt-div-mul-add}
 use native.Mathlib.Omega.{arith}
 use Rattle.measures.specs.Rounding.{rounded, gap, Rounds, Floors}
 
-pub above : {n : ℕ} → (n ≡ 0 → ⊥) → 0 < n
-above h = omega arith
-
 next_multiple : (m k : ℕ) → (m + 1) * k ≡ m * k + k
 next_multiple m k = add-mul m 1 k ∙ ap (λ (z : ℕ). m * k + z) (one-mul k)
-
--- a quotient is the number between whose multiples the dividend lies
-pub quotient : (x k m : ℕ) → 0 < k → m * k ≤ x → x < m * k + k → x / k ≡ m
-quotient x k m hk lo hi =
-    let a : m ≤ x / k = (le-div_iff_mul-le hk).1 lo in
-    let e = next_multiple m k in
-    let b : x / k < m + 1 = (div-lt_iff_lt-mul hk).1 (omega arith) in
-    omega arith
 
 -- twice the rest, and one more where the quotient is odd: it is rounded up where this is above the divisor
 abbrev pub doubled : ℕ → ℕ → ℕ
@@ -31,32 +17,25 @@ unfolding rounded
 up n d hd h =
     let m = mod-lt n hd in
     let s = div-add-mod' n d in
-    let e = next_multiple (n / d) (2 * d) in
     let f : n / d * (2 * d) ≡ 2 * (n / d * d) = mul_left_comm (n / d) 2 d in
-    quotient _ _ _ (omega arith) (omega arith) (omega arith)
+    let e = next_multiple (n / d) (2 * d) in
+    let g = next_multiple (n / d + 1) (2 * d) in
+    div-eq_of_lt-le (2 * d) (omega arith) (omega arith)
 
 pub down : (n d : ℕ) → 0 < d → doubled n d ≤ d → rounded n d ≡ n / d
 unfolding rounded
 down n d hd h =
     let s = div-add-mod' n d in
     let f : n / d * (2 * d) ≡ 2 * (n / d * d) = mul_left_comm (n / d) 2 d in
-    quotient _ _ _ (omega arith) (omega arith) (omega arith)
+    let e = next_multiple (n / d) (2 * d) in
+    div-eq_of_lt-le (2 * d) (omega arith) (omega arith)
 
 pub by_zero : (n : ℕ) → rounded n 0 ≡ 0
 unfolding rounded
 by_zero n = div-zero _
 
--- what holds of the quotient where it is rounded down, and of the next number where it is rounded up, holds of the rounded one
-either : (P : ℕ → Type 0) (n d : ℕ) → 0 < d → (d < doubled n d → P (n / d + 1)) → (doubled n d ≤ d → P (n / d)) → P (rounded n d)
-either P n d hd upper lower = go (ltb d (doubled n d)) refl
-  where
-    go : (t : Bool) → ltb d (doubled n d) ≡ t → P (rounded n d)
-    go true t = let l = ltb-true d _ t in rw (up n d hd l) (upper l)
-    go false t = let l = ltb-false d _ t in rw (down n d hd l) (lower l)
-
 pub rounded_most : (n d : ℕ) → rounded n d ≤ n / d + 1
-rounded_most n zero = omega (arith, by_zero n)
-rounded_most n (suc d) = either (λ q. q ≤ n / suc d + 1) n (suc d) (omega arith) (λ l. omega arith) (λ l. omega arith)
+rounded_most n d = grind (arith, by_zero n, up n d, down n d)
 
 bounds : (n d : ℕ) → 0 < d → (2 * (rounded n d * d) ≤ 2 * n + d) × (2 * n ≤ 2 * (rounded n d * d) + d)
 unfolding rounded
@@ -76,24 +55,17 @@ further_multiple m q d h =
     omega arith
 
 apart : (n d q m : ℕ) → (2 * (q * d) ≤ 2 * n + d) × (2 * n ≤ 2 * (q * d) + d) → gap n (q * d) ≤ gap n (m * d)
-apart n d q m b = below (ltb m q) refl
-  where
-    above : (t : Bool) → ltb q m ≡ t → q ≤ m → gap n (q * d) ≤ gap n (m * d)
-    above true e l = omega (arith, further_multiple q m d (ltb-true q m e))
-    above false e l =
-        let s : m ≡ q = omega (arith, ltb-false q m e) in
-        rw s (omega arith)
-
-    below : (t : Bool) → ltb m q ≡ t → gap n (q * d) ≤ gap n (m * d)
-    below true e = omega (arith, further_multiple m q d (ltb-true m q e))
-    below false e = above (ltb q m) refl (ltb-false m q e)
+apart n d q m b =
+    let same : m ≡ q → m * d ≡ q * d = ap (λ (x : ℕ). x * d) in
+    grind (arith, same, further_multiple m q d, further_multiple q m d)
 
 halfway : (n d m : ℕ) → 0 < d → 2 * n ≡ 2 * (m * d) + d → rounded n d ≡ m + m % 2
 halfway n d m hd h =
-    let whole : n / d ≡ m = quotient n d m hd (omega arith) (omega arith) in
+    let e = next_multiple m d in
+    let whole : n / d ≡ m = div-eq_of_lt-le d (omega arith) (omega arith) in
     let multiple : n / d * d ≡ m * d = ap (λ (q : ℕ). q * d) whole in
     let s = div-add-mod' n d in
-    either (λ q. q ≡ m + m % 2) n d hd (λ l. omega arith) (λ l. omega arith)
+    grind (arith, up n d hd, down n d hd)
 
 pub rounds : Rounds
 rounds n d hd = record { nearest = λ m. apart n d (rounded n d) m (bounds n d hd); half_even = λ m h. omega (arith, halfway n d m hd h) }

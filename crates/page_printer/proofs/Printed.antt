@@ -4,14 +4,17 @@ use mathlib.Core.Path.{◌≡◌, refl, sym, ap, ◌∙◌}
 use mathlib.Core.Bool.{Bool, true, false}
 use mathlib.Core.List.{List, ◌++◌}
 use native.Mathlib.Omega.{arith}
-use lib.ListN.{length, drop, length-append, length-drop}
+use lib.ListN.{length, take, drop, replicate, length-append, length-drop}
+use lib.Seq.{take_at}
 use lib.Dec.{eqb}
 use borrow.Author.Tests.{eqb-false}
 use Rattle.entries.specs.Ranges.{between}
-use Rattle.entries.specs.Refusals.{refuse_if, decided_of}
+use Rattle.entries.specs.Refusals.{refusal_number, decided_of}
+use Rattle.entries.proofs.RefusalsLaws.{refusal_above}
 use Rattle.lines.specs.Lines.{refused_line}
 use Rattle.book.specs.Fresh.{accounts_most}
-use Rattle.replays.specs.Loaded.{LoadedReply}
+use Rattle.loads.specs.Loaded.{LoadedReply}
+use Rattle.loads.specs.declared.Fault.{Fault}
 use Rattle.pages.specs.Rows.{page_bytes}
 use Rattle.pages.specs.Pages.{page_text_of, page_of}
 use Rattle.image_page.specs.Pages.{PageImageExit, page_given, page_image}
@@ -29,36 +32,41 @@ data Outcome (l : LoadedReply) (account : ℕ) (before : List ℕ) : Type 0 wher
       Outcome l account before
 
 outcome : (l : LoadedReply) (account : ℕ) (before : List ℕ) → length before ≡ page_bytes → Outcome l account before
-unfolding page_image printed_page page_of decided_of refuse_if
+unfolding page_image printed_page page_of decided_of
 outcome l account before room = by_tests (eqb l.refusal 0) (between account 1 accounts_most) refl refl
   where
     by_tests : (t u : Bool) → eqb l.refusal 0 ≡ t → between account 1 accounts_most ≡ u → Outcome l account before
     by_tests false u e f = refused l.refusal l.faulty (eqb-false _ _ e) (rw e refl) (rw e refl)
-    by_tests true false e f = refused 3 0 (λ z. omega arith) (rw (e, f, room) refl) (rw (e, f) refl)
+    by_tests true false e f = refused 3 0 (λ z. omega arith) (rw (e, f) refl) (rw (e, f) refl)
     by_tests true true e f = paged (rw (e, f, room) refl) (rw (e, f) refl)
 
-module _ (l : LoadedReply) (account : ℕ) (before after : List ℕ) (g : PageGiven) (room : length before ≡ page_bytes)
-    (e : exit g after ≡ page_image l account before) where
+-- a page's bytes before it is written
+abbrev before : List ℕ
+before = replicate page_bytes 0
+
+module _ (l : LoadedReply) (account : ℕ) (after : List ℕ) where
   -- a page that is given: it has 5,346 bytes, since the text has as many as before
-  pub given_page : length after ≡ page_bytes → g.refusal ≡ 0 →
-      (g.bytes ≡ length (printed_page l account)) × (after ≡ printed_page l account ++ drop g.bytes before)
-  given_page h z = by_outcome (outcome l account before room)
+  pub given_page : (n : ℕ) → exit (page_given 0 0 n) after ≡ page_image l account before → length after ≡ page_bytes →
+      (n ≡ page_bytes) × (take n after ≡ printed_page l account)
+  given_page n e h = by_outcome (outcome l account before refl)
     where
-      by_outcome : Outcome l account before → (g.bytes ≡ length (printed_page l account)) × (after ≡ printed_page l account ++ drop g.bytes before)
+      by_outcome : Outcome l account before → (n ≡ page_bytes) × (take n after ≡ printed_page l account)
       by_outcome (paged x p) =
-          let n : g.bytes ≡ page_bytes = ap (λ (v : PageImageExit). v.given.bytes) (e ∙ x) in
+          let m : n ≡ page_bytes = ap (λ (v : PageImageExit). v.given.bytes) (e ∙ x) in
           let a : after ≡ page_text_of l.book account ++ drop page_bytes before = ap (λ (v : PageImageExit). v.output) (e ∙ x) in
           let long : length (page_text_of l.book account) ≡ page_bytes =
           omega (arith, ap length a, length-append (page_text_of l.book account) (drop page_bytes before), length-drop page_bytes before) in
-          rw (p, n) (sym long, a)
-      by_outcome (refused n i f x p) = absurd (f (sym (ap (λ (v : PageImageExit). v.given.refusal) (e ∙ x)) ∙ z))
+          (m, rw (m, a, p) (take_at (page_text_of l.book account) (drop page_bytes before) page_bytes long))
+      by_outcome (refused r i f x p) = absurd (f (sym (ap (λ (v : PageImageExit). v.given.refusal) (e ∙ x))))
 
-  -- a refusal: its line is printed, and the text is as it was
-  pub given_refusal : (g.refusal ≡ 0 → ⊥) → (printed_page l account ≡ refused_line g.refusal g.«record») × (after ≡ before)
-  given_refusal f = by_outcome (outcome l account before room)
+  -- a refusal: its line is printed
+  pub given_refusal : (f : Fault) → exit (page_given (refusal_number f.refusal) f.«record» 0) after ≡ page_image l account before →
+      printed_page l account ≡ refused_line (refusal_number f.refusal) f.«record»
+  given_refusal f e = by_outcome (outcome l account before refl)
     where
-      by_outcome : Outcome l account before → (printed_page l account ≡ refused_line g.refusal g.«record») × (after ≡ before)
-      by_outcome (paged x p) = absurd (f (ap (λ (v : PageImageExit). v.given.refusal) (e ∙ x)))
-      by_outcome (refused n i h x p) =
-          let given = ap (λ (v : PageImageExit). v.given) (e ∙ x) in
-          (rw given p, ap (λ (v : PageImageExit). v.output) (e ∙ x))
+      by_outcome : Outcome l account before → printed_page l account ≡ refused_line (refusal_number f.refusal) f.«record»
+      by_outcome (paged x p) = absurd (omega (arith, refusal_above f.refusal, ap (λ (v : PageImageExit). v.given.refusal) (e ∙ x)))
+      by_outcome (refused r i h x p) =
+          let number : refusal_number f.refusal ≡ r = ap (λ (v : PageImageExit). v.given.refusal) (e ∙ x) in
+          let faulty : f.«record» ≡ i = ap (λ (v : PageImageExit). v.given.«record») (e ∙ x) in
+          rw (number, faulty) p

@@ -5,7 +5,7 @@ use Rattle.entries.specs.Refusals.{refusal_number}
 use Rattle.entries.specs.declared.refusals.Refusal.TheVariants as no
 use Rattle.lines.specs.Lines.{refused_line}
 use Rattle.book.specs.Fresh.{accounts_most}
-use Rattle.replays.specs.Loaded.{LoadedReply}
+use Rattle.loads.specs.Loaded.{LoadedReply}
 use Rattle.pages.specs.Pages.{page_text_of}
 
 -- the account's page; a refused image writes only `refused`, number, record, and an unknown account only `refused`, 3, 0

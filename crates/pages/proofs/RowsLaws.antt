@@ -1,76 +1,23 @@
--- Laws of a page's lines: fields put into a blank line one after another, and how long lines are.
-use Prim.Native.Nat.{ℕ, zero, suc, ◌+◌, ◌*◌, ◌≤◌, ◌<◌}
+-- Laws of a page's lines: how long they are, and their form.
+use Prim.Native.Nat.{ℕ, zero, suc, ◌*◌, ◌≤◌, ◌<◌}
 use mathlib.Core.Path.{◌≡◌, refl, ap, ◌∙◌}
-use mathlib.Core.List.{List, [], ◌∷◌, ◌++◌, map, append_assoc}
+use mathlib.Core.List.{List, [], ◌∷◌, ◌++◌, map}
 use native.Mathlib.Omega.{arith}
 use lib.ListN.{length, take, drop, length-append}
 use lib.Seq.{take_at, drop_at}
-use Rattle.buffers.specs.Buffers.{written_at}
-use Rattle.buffers.proofs.Buffers.{written, Holds, appended, holds_none, holds_more, holds_all}
-use Rattle.decimal.specs.Decimal.{newline, line_columns, digits, dollars, right, field_of, last_columns}
-use Rattle.decimal.specs.declared.Field.{Field}
-use Rattle.decimal.proofs.Decimal.{decimal_text, last_columns_lem, at_most_twenty_one}
+use Rattle.decimal.specs.Decimal.{newline, line_columns, digits, dollars, right}
+use Rattle.decimal.proofs.Decimal.{decimal_text, at_most_twenty_one}
 use Rattle.queries.specs.declared.statements.StatementReply.{StatementReply}
 use Rattle.pages.specs.Rows.{line_bytes, entries_shown, closed, blank_row, account_row, figure_row, entry_row, entry_rows, figure_rows, head_rows, text_of, Line, AllLines, FiguresFit, EntryFits, AllFit, PageForm}
 use Rattle.pages.specs.declared.rows.EntryLine.{EntryLine}
 
-pub blank_long : length blank_row ≡ line_bytes
+blank_long : length blank_row ≡ line_bytes
 unfolding blank_row right
 blank_long = refl
-
--- A line that begins with the text of its fields, up to a column, and is blank from there on.
-pub record Fields (text row : List ℕ) (at : ℕ) : Type 0 where
-  pub long : length row ≡ line_bytes
-  pub holds : Holds text blank_row row at
-
-pub no_fields : (row : List ℕ) → row ≡ blank_row → Fields [] row 0
-no_fields row e = rw e (record { long = blank_long; holds = holds_none blank_row })
-
--- one field more
-pub more_fields : (w : ℕ) (t text row after : List ℕ) (f : Field) (at next : ℕ) → f ≡ field_of t → length t ≤ w → w ≤ line_columns → at + w ≤ line_bytes →
-    length after ≡ length row → Fields text row at → written after next ≡ written_at (last_columns w f.columns) at row →
-    (next ≡ at + w) × Fields (text ++ right w t) after next
-more_fields w t text row after f at next e h l room same k p =
-    let put : written after next ≡ written_at (right w t) at row = rw (last_columns_lem w t f e h l) at p in
-    let wide : length (right w t) ≡ w = (decimal_text.field w t h l).0 in
-    let fits : at + length (right w t) ≤ length row = omega (arith, k.long) in (
-      (appended (right w t) row after at next fits put).end ∙ (rw wide refl),
-      record { long = omega (arith, k.long); holds = holds_more text (right w t) blank_row row after at next fits same k.holds put },
-    )
-
--- the line after its fields
-pub fields_row : (text row : List ℕ) (at : ℕ) → Fields text row at → row ≡ text ++ drop at blank_row
-fields_row text row at k = holds_all text blank_row row at k.holds
-
--- one field alone
-pub one_field : (w : ℕ) (t row after : List ℕ) (f : Field) (next : ℕ) → row ≡ blank_row → f ≡ field_of t → length t ≤ w → w ≤ line_columns →
-    length after ≡ length row → written after next ≡ written_at (last_columns w f.columns) 0 row → after ≡ right w t ++ drop w blank_row
-one_field w t row after f next b e h l same p =
-    let k = more_fields w t [] row after f 0 next e h l (omega arith) same (no_fields row b) p in
-    let n : next ≡ w = omega (arith, k.0) in
-    fields_row (right w t) after next k.1 ∙ (rw n refl)
-
--- a blank line from column 4 on, and from its end on
-from_4 : drop 3 blank_row ≡ right 77 [] ++ (newline ∷ [])
-unfolding blank_row right
-from_4 = refl
 
 from_end : drop line_columns blank_row ≡ newline ∷ []
 unfolding blank_row right
 from_end = refl
-
-pub account_row_lem : (account : ℕ) → right 3 (digits account) ++ drop 3 blank_row ≡ account_row account
-unfolding account_row
-account_row_lem account = rw (from_4, append_assoc) refl
-
-pub figure_row_lem : (cents : ℕ) → right line_columns (dollars cents) ++ drop line_columns blank_row ≡ figure_row cents
-unfolding figure_row
-figure_row_lem cents = rw from_end refl
-
-pub entry_row_lem : (l : EntryLine) →
-    (((right 4 (digits l.number) ++ right 6 (digits l.day)) ++ right 3 (digits l.kind)) ++ right 67 (dollars l.amount)) ++ drop line_columns blank_row ≡ entry_row l
-unfolding entry_row
-entry_row_lem l = simp (from_end, append_assoc)
 
 -- THE FORM OF A PAGE
 
@@ -78,10 +25,10 @@ closed_line : (columns : List ℕ) → length columns ≡ line_columns → Line 
 closed_line columns h =
     record { long = omega (arith, length-append columns (newline ∷ [])); end = drop_at columns (newline ∷ []) line_columns h }
 
-pub blank_line : Line blank_row
+blank_line : Line blank_row
 blank_line = record { long = blank_long; end = from_end }
 
-pub account_line_lem : (account : ℕ) → account < 1000 → Line (account_row account)
+account_line_lem : (account : ℕ) → account < 1000 → Line (account_row account)
 unfolding account_row
 account_line_lem account h =
     closed_line (right 3 (digits account) ++ right 77 [])
@@ -92,7 +39,7 @@ account_line_lem account h =
       (decimal_text.field 77 [] (omega arith) (omega arith)).0,
     ))
 
-pub figure_line : (cents : ℕ) → cents < 18446744073709551616 → Line (figure_row cents)
+figure_line : (cents : ℕ) → cents < 18446744073709551616 → Line (figure_row cents)
 unfolding figure_row
 figure_line cents h =
     closed_line (right line_columns (dollars cents)) (decimal_text.field line_columns (dollars cents) (omega (arith, at_most_twenty_one cents h)) (omega arith)).0
@@ -113,7 +60,7 @@ entry_room l f =
       amount = omega (arith, at_most_twenty_one l.amount f.amount);
     }
 
-pub entry_line : (l : EntryLine) → EntryFits l → Line (entry_row l)
+entry_line : (l : EntryLine) → EntryFits l → Line (entry_row l)
 unfolding entry_row
 entry_line l f =
     let n = right 4 (digits l.number) in
@@ -156,13 +103,13 @@ entries_shown_lem zero ls h = refl
 entries_shown_lem (suc n) [] h = absurd (omega arith)
 entries_shown_lem (suc n) (l ∷ ls) h = ap (λ rows. entry_row l ∷ rows) (entries_shown_lem n ls (omega arith))
 
-pub figures_lines : (s : StatementReply) → FiguresFit s → AllLines (figure_rows s)
+figures_lines : (s : StatementReply) → FiguresFit s → AllLines (figure_rows s)
 figures_lines s f = (
   figure_line s.arrears f.arrears,
   (figure_line s.credit f.credit, (figure_line s.deposit f.deposit, (figure_line s.held f.held, tt))),
 )
 
-pub head_lines : (account : ℕ) (s : StatementReply) → account < 1000 → FiguresFit s → AllLines (head_rows account s)
+head_lines : (account : ℕ) (s : StatementReply) → account < 1000 → FiguresFit s → AllLines (head_rows account s)
 head_lines account s h f =
     (account_line_lem account h, (blank_line, both_lines (figure_rows s) (blank_row ∷ []) (figures_lines s f) (blank_line, tt)))
 

@@ -1,23 +1,21 @@
 -- The page of an account of a book, written into a lent buffer.
-use Rattle.std.specs.Prelude.{ℕ, ◌+◌, cond, not, ◌||◌, List, [], ◌∷◌, ◌++◌, map, length, drop, ltb}
+use Rattle.std.specs.Prelude.{ℕ, ◌+◌, cond, not, ◌||◌, List, [], ◌∷◌, ◌++◌, map, length, drop, ltb, Result, Ok, Err}
 use Rattle.entries.specs.Kinds.{number_of, same_of}
 use Rattle.entries.specs.Ranges.{between}
 use Rattle.entries.specs.Data.{particulars_of}
 use Rattle.entries.specs.Refusals.{refusal_number, Row, ◌⇒◌, check_rows, decided_of}
 use Rattle.entries.specs.declared.kinds.Kind.TheVariants as kind
 use Rattle.entries.specs.declared.data.Entry.{Entry}
+use Rattle.entries.specs.declared.refusals.Refusal.{Refusal}
 use Rattle.entries.specs.declared.refusals.Refusal.TheVariants as no
-use Rattle.entries.specs.declared.refusals.Check.TheVariants as check
 use Rattle.book.specs.Fresh.{accounts_most}
-use Rattle.book.specs.Chain.{Link}
+use Rattle.changes.specs.declared.Link.{Link}
 use Rattle.book.specs.declared.Book.{Book}
 use Rattle.queries.specs.Chain.{walk_at}
 use Rattle.queries.specs.Statements.{statement_of}
 use Rattle.saves.specs.Saves.{raw_of}
 use Rattle.pages.specs.Rows.{page_bytes, page_rows, text_of}
 use Rattle.pages.specs.declared.rows.EntryLine.{EntryLine}
-use Rattle.pages.specs.declared.PageAnswer.{PageAnswer}
-use Rattle.pages.specs.declared.PageAnswer.TheVariants.{Refused, Length}
 
 -- a bill's or payment's standing amount, else the posted one, which is zero where the kind has none
 unfoldable pub shown_amount : Entry → ℕ
@@ -47,9 +45,9 @@ pub record PageExit : Type 0 where
 abbrev pub page_exit : ℕ → ℕ → List ℕ → PageExit
 page_exit refusal bytes buffer = record { refusal = refusal; bytes = bytes; buffer = buffer }
 
-unfoldable pub page_exit_of : PageAnswer → List ℕ → PageExit
-page_exit_of (Refused n) buf = page_exit (refusal_number n) 0 buf
-page_exit_of (Length n) buf = page_exit 0 n buf
+unfoldable pub page_exit_of : Result ℕ Refusal → List ℕ → PageExit
+page_exit_of (Err n) buf = page_exit (refusal_number n) 0 buf
+page_exit_of (Ok n) buf = page_exit 0 n buf
 
 -- 3, then 23
 abbrev pub page_refusals : ℕ → ℕ → List Row
@@ -59,5 +57,5 @@ page_refusals account bytes =
 -- refused: nothing is written; else the page is written over the buffer's start, and no other byte is touched
 unfoldable pub page_of : Book → ℕ → List ℕ → PageExit
 page_of b account buf =
-    decided_of (check_rows check.Passed (page_refusals account (length buf))) (λ n. page_exit (refusal_number n) 0 buf)
+    decided_of (check_rows (page_refusals account (length buf))) (λ n. page_exit (refusal_number n) 0 buf)
     (page_exit 0 page_bytes (page_text_of b account ++ drop page_bytes buf))

@@ -1,51 +1,40 @@
 -- Laws of the printer's text: account by account, and by the load's answer.
-use Prim.Native.Nat.{ℕ, suc, ◌+◌, ◌≤◌}
+use Prim.Native.Nat.{ℕ, zero, suc, ◌-◌, ◌<◌}
+use native.Mathlib.Omega.{arith}
 use mathlib.Core.Path.{◌≡◌}
-use mathlib.Core.Bool.{false}
-use mathlib.Core.List.{List, ◌++◌}
-use native.Mathlib.Numerals.{add-one}
-use lib.ListN.{length, get_or}
-use lib.Dec.{eqb}
-use borrow.Author.Tests.{ne_eqb}
+use mathlib.Core.List.{List, ◌++◌, append-nil}
+use native.Mathlib.Numerals.{sub-one}
+use borrow.Author.Tests.{ne_eqb, eq-eqb}
 use Rattle.entries.specs.Refusals.{refusal_number}
-use Rattle.entries.specs.declared.refusals.Refusal.{Refusal}
 use Rattle.entries.proofs.RefusalsLaws.{is_refusal}
 use Rattle.lines.specs.Lines.{refused_line}
-use Rattle.buffers.specs.Buffers.{written_at}
-use Rattle.buffers.proofs.Buffers.{written, Holds, holds_more}
-use Rattle.rules.specs.Accounts.{no_account}
-use Rattle.book.specs.Chain.{slot_of}
 use Rattle.book.specs.Posting.{account_at}
 use Rattle.book.specs.declared.Book.{Book}
 use Rattle.queries.specs.Statements.{statement_of}
 use Rattle.queries.specs.declared.statements.StatementReply.{StatementReply}
-use Rattle.replays.specs.Loaded.{loaded_reply}
-use Rattle.replays.specs.declared.Loaded.{Loaded}
-use Rattle.replays.specs.declared.LoadAnswer.TheVariants.{Accepted, Refused}
+use Rattle.loads.specs.Loaded.{LoadAnswer, loaded_reply}
+use Rattle.loads.specs.declared.Fault.{Fault}
+use Rattle.book.specs.declared.Next.{Next}
+use Rattle.std.specs.Prelude.{Ok, Err}
 use Rattle.printer.specs.Printed.{statement_line, account_lines, book_lines, printed_of}
 
--- the next account has entries
-module _ (b : Book) (n a : ℕ) (e : a ≡ slot_of (n + 1)) where
-  lines_more : ((get_or b.accounts a no_account).newest ≡ 0 → ⊥) →
-      account_lines b (n + 1) ≡ account_lines b n ++ statement_line (n + 1) (statement_of b (n + 1) 0)
+-- the lines up to an account, where it has entries and where it has none
+module _ (b : Book) where
+  pub lines_more : (account : ℕ) (text : List ℕ) (s : StatementReply) → 0 < account → ((account_at b account).newest ≡ 0 → ⊥) →
+      s ≡ statement_of b account 0 → text ≡ account_lines b (account - 1) → text ++ statement_line account s ≡ account_lines b account
   unfolding account_lines
-  lines_more h =
-      let test : eqb (account_at b (suc n)).newest 0 ≡ false = rw (e, add-one n) at (ne_eqb _ _ h) in
-      rw (add-one n, test)
+  lines_more zero text s above h q k = absurd (omega arith)
+  lines_more (suc n) text s above h q k = rw (k, sub-one (suc n), ne_eqb (account_at b (suc n)).newest 0 h, q)
 
-  -- a turn of the loop
-  pub turn_more : (s : StatementReply) (before text after : List ℕ) (at next : ℕ) → ((get_or b.accounts a no_account).newest ≡ 0 → ⊥) →
-      s ≡ statement_of b (n + 1) 0 → at + length (statement_line (n + 1) s) ≤ length text → length after ≡ length text →
-      Holds (account_lines b n) before text at → written after next ≡ written_at (statement_line (n + 1) s) at text →
-      Holds (account_lines b (n + 1)) before after next
-  turn_more s before text after at next h q room l k w =
-      rw (lines_more h, ← q) (holds_more (account_lines b n) (statement_line (n + 1) s) before text after at next room l k w)
+  pub lines_same : (account : ℕ) (text : List ℕ) → 0 < account → (account_at b account).newest ≡ 0 → text ≡ account_lines b (account - 1) → text ≡ account_lines b account
+  unfolding account_lines
+  lines_same zero text above h k = absurd (omega arith)
+  lines_same (suc n) text above h k = rw (k, sub-one (suc n), eq-eqb (account_at b (suc n)).newest 0 h, append-nil (account_lines b n))
 
-pub printed_book : (l : Loaded) → l.answer ≡ Accepted → printed_of (loaded_reply l) ≡ book_lines l.book
+pub printed_book : (l : Next LoadAnswer) (x : Unit {0}) → l.answer ≡ Ok x → printed_of (loaded_reply l) ≡ book_lines l.book
 unfolding printed_of loaded_reply
-printed_book l e = rw e
+printed_book l x e = rw e
 
-pub printed_refused : (l : Loaded) (n : Refusal) (faulty : ℕ) → l.answer ≡ Refused n faulty →
-    printed_of (loaded_reply l) ≡ refused_line (refusal_number n) faulty
+pub printed_refused : (l : Next LoadAnswer) (f : Fault) → l.answer ≡ Err f → printed_of (loaded_reply l) ≡ refused_line (refusal_number f.refusal) f.«record»
 unfolding printed_of loaded_reply
-printed_refused l n faulty e = rw (e, is_refusal n)
+printed_refused l f e = rw (e, is_refusal f.refusal)

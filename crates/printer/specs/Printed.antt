@@ -1,12 +1,12 @@
 -- What the statement printer writes of a load, as bytes.
-use Rattle.std.specs.Prelude.{ℕ, zero, suc, ◌+◌, ◌*◌, Bool, cond, not, List, [], ◌++◌, eqb}
-use Rattle.lines.specs.Lines.{longest_line, account_line, end_line, refused_line}
+use Rattle.std.specs.Prelude.{ℕ, zero, suc, Bool, cond, not, List, [], ◌++◌, eqb}
+use Rattle.lines.specs.Lines.{account_line, end_line, refused_line}
 use Rattle.book.specs.Fresh.{accounts_most}
 use Rattle.book.specs.Posting.{account_at}
 use Rattle.book.specs.declared.Book.{Book}
 use Rattle.queries.specs.Statements.{statement_of}
 use Rattle.queries.specs.declared.statements.StatementReply.{StatementReply}
-use Rattle.replays.specs.Loaded.{LoadedReply}
+use Rattle.loads.specs.Loaded.{LoadedReply}
 
 -- an account has entries exactly where the number of its newest entry is not 0
 abbrev pub has_entries : Book → ℕ → Bool
@@ -29,7 +29,3 @@ book_lines b = account_lines b accounts_most ++ end_line b.count
 -- a refusal writes only `refused`, number, record
 unfoldable pub printed_of : LoadedReply → List ℕ
 printed_of l = cond (eqb l.refusal 0) (book_lines l.book) (refused_line l.refusal l.faulty)
-
--- the bytes that every text has room in: those of a line for each account and of one line more
-abbrev pub room_most : ℕ
-room_most = (accounts_most + 1) * longest_line

@@ -1,59 +1,64 @@
 // What the statement printer writes.
 #![tactic(auto)]
 
-ghost use Rattle.std.specs.Prelude.{◌≡◌, ◌++◌, ◌≤◌, length, drop};
-ghost use Rattle.replays.specs.Loaded.{loaded_reply};
-ghost use Rattle.printer.specs.Printed.{book_lines, printed_of, room_most};
+ghost use Rattle.std.specs.Prelude.{◌≡◌};
+ghost use Rattle.loads.specs.Loaded.{loaded_reply};
+ghost use Rattle.printer.specs.Printed.{book_lines, printed_of};
 
-use book::{Book, slot};
+use book::Book;
+use buffers::Text;
+use codec::LONGEST_IMAGE;
 use lines::{account_line, end_line, refused_line};
-use loads::{LoadAnswer, Loaded};
-use queries::statement;
+use loads::{Loaded, load};
+use queries::{StatementReply, statement};
 use std::io;
+use std::io::Read;
+use text::read_full;
 
 // The bytes that every text has room in: a line for each account, and one line more.
 pub const ROOM: usize = (Book::ACCOUNTS + 1) * lines::LONGEST_LINE;
 
-// Writes a line for each account with entries, ascending, and the end line, and gives their length.
-#[tactic(auto, using(book::proofs::Chain::slot_inside), unfolding(crate::specs::Printed::account_lines))]
-fn print_book(book: Book, text: &mut [u8]) -> usize
-    requires { room_most ≤ length text.old }
-    ensures { (result ≡ length (book_lines book)) × (text.new ≡ book_lines book ++ drop result text.old) }
+// A line for each account with entries, ascending, and the end line.
+#[tactic(auto, unfolding(crate::specs::Printed::account_lines))]
+fn book_lines(book: &Book) -> Text<ROOM>
+    ensures { result ≡ book_lines book.now }
 {
-    let mut at = 0;
-    let mut account: u16 = 0;
-    while account < Book::ACCOUNTS as u16 {
-        account += 1;
-        let a = slot(account);
-        let own = book.accounts[a];
-        if own.newest != 0 {
-            let answer = statement(book, account, 0);
-            let r = answer.reply();
-            at = account_line(text, at, account, r.arrears, r.credit, r.deposit, r.held);
+    let mut text = Text::new();
+    for account in 1..=Book::ACCOUNTS as u16 {
+        if book.account(account).newest != 0 {
+            let r = StatementReply::from(statement(book, account, 0));
+            text.push(account_line(account, r.arrears, r.credit, r.deposit, r.held).as_slice());
         }
     }
-    end_line(text, at, book.count as u64)
+    text.push(end_line(u64::from(book.count)).as_slice());
+    text
 }
 
-// Writes what the printer writes of a load over the start of a text, and gives its length.
-pub fn printed(loaded: Loaded, text: &mut [u8; ROOM]) -> usize
-    ensures { (result ≡ length (printed_of (loaded_reply loaded))) × (text.new ≡ printed_of (loaded_reply loaded) ++ drop result text.old) }
+// What the printer writes of a load.
+pub fn printed(loaded: Loaded) -> Text<ROOM>
+    ensures { result ≡ printed_of (loaded_reply loaded) }
 {
-    let answer = loaded.answer;
-    match answer {
-        LoadAnswer::Accepted => {
-            let book = loaded.book;
-            print_book(book, text)
-        }
-        LoadAnswer::Refused { refusal, record } => {
-            refused_line(text, 0, refusal.number() as u64, record as u64)
+    match loaded.answer {
+        Ok(()) => book_lines(&loaded.book),
+        Err(fault) => {
+            let mut text = Text::new();
+            let number = u8::from(fault.refusal);
+            text.push(refused_line(u64::from(number), u64::from(fault.record)).as_slice());
+            text
         }
     }
 }
 
 // Writes what the printer writes of a load to standard output.
 pub fn print_loaded(rt: &impl Print, loaded: Loaded) -> io::Result<()> {
-    let mut text = [0u8; ROOM];
-    let n = printed(loaded, &mut text);
-    rt.write_all(&text[..n])
+    rt.write_all(printed(loaded).as_slice())
+}
+
+// Reads an image, and writes what the printer writes of its load. No contract can say what is read and written: what is proved is `load` of
+// the bytes read, and `printed` of what it gives.
+pub fn print_image<R: Read>(rt: &impl Print, input: &mut R) -> io::Result<()> {
+    // One byte more than the longest image has, so that a longer one is noticed.
+    let mut image = [0u8; LONGEST_IMAGE + 1];
+    let n = read_full(input, &mut image)?;
+    print_loaded(rt, load(&image[..n]))
 }

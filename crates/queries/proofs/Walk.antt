@@ -1,7 +1,7 @@
 -- The walk's sums over a chain are the statement's.
 use Prim.Native.Nat.{ℕ, suc, ◌+◌, ◌-◌, ◌<◌, ◌≤◌, min}
 use mathlib.Core.Path.{◌≡◌, refl, sym, ap, ◌∙◌}
-use mathlib.Core.Bool.{Bool, true, false, cond}
+use mathlib.Core.Bool.{Bool, true, false}
 use mathlib.Core.List.{List, [], ◌∷◌}
 use native.Mathlib.Nat.{min-eq_left, min-eq_right, min-le_right, min-zero, suc-min-suc, add_assoc, add-zero, zero-add, sub-zero, sub-eq-zero_of_le}
 use native.Mathlib.Omega.{arith}
@@ -10,13 +10,13 @@ use lib.Seq.{take-nil}
 use lib.Dec.{leb}
 use borrow.Author.Tests.{leb-true, leb-false, le-leb, lt-leb}
 use Rattle.measures.specs.Cents.{cents, most}
-use Rattle.measures.specs.declared.Cents.{Cents}
 use Rattle.entries.specs.Kinds.{counts_with_bills}
-use Rattle.entries.specs.Data.{particulars_of, one_more}
+use Rattle.entries.specs.Data.{particulars_of, standing_if, one_more}
 use Rattle.entries.specs.declared.kinds.Kind.{Kind}
 use Rattle.entries.specs.declared.data.Entry.{Entry}
+use Rattle.entries.proofs.DataLaws.{standing_if_lem}
 use Rattle.queries.specs.Chain.{total_of, held_of, standing_of, is_payment}
-use Rattle.queries.specs.Walk.{sums, no_sums, standing_in, sums_with}
+use Rattle.queries.specs.Walk.{sums, no_sums, sums_with}
 use Rattle.queries.specs.declared.statements.Sums.{Sums}
 
 -- a sum that stops at m may stop there on the way
@@ -44,13 +44,9 @@ sums_over allowance s [] = s
 sums_over allowance s (e ∷ es) = sums_over allowance (sums_with s e allowance) es
 
 standing_same : (counts : Kind → Bool) (e : Entry) →
-    standing_in (counts (particulars_of e.«data»).kind) (particulars_of e.«data») ≡ cents (standing_of counts e)
-unfolding standing_in standing_of
-standing_same counts e = go (counts (particulars_of e.«data»).kind) (particulars_of e.«data»).standing
-  where
-    go : (t : Bool) (x : Cents) → cond t x (cents 0) ≡ cents (cond t x.0 0)
-    go true x = refl
-    go false x = refl
+    standing_if (counts (particulars_of e.«data»).kind) (particulars_of e.«data») ≡ cents (standing_of counts e)
+unfolding standing_of
+standing_same counts e = standing_if_lem (counts (particulars_of e.«data»).kind) (particulars_of e.«data»)
 
 -- sums as numbers
 abbrev pub plain : ℕ → ℕ → ℕ → ℕ → ℕ → Sums

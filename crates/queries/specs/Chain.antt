@@ -6,7 +6,8 @@ use Rattle.entries.specs.declared.kinds.Kind.{Kind}
 use Rattle.entries.specs.declared.kinds.Kind.TheVariants as kind
 use Rattle.entries.specs.declared.data.Entry.{Entry}
 use Rattle.book.specs.Fresh.{entries_most}
-use Rattle.book.specs.Chain.{Link, walk_of}
+use Rattle.changes.specs.declared.Link.{Link}
+use Rattle.book.specs.Chain.{walk_of}
 use Rattle.book.specs.Posting.{account_at}
 use Rattle.book.specs.declared.Book.{Book}
 

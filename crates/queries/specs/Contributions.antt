@@ -1,24 +1,28 @@
 -- The contribution query, in document 01's numbers.
-use Rattle.std.specs.Prelude.{ℕ, false, not, List, [], ◌∷◌}
+use Rattle.std.specs.Prelude.{ℕ, false, not, List, [], ◌∷◌, Result, Ok, Err}
 use Rattle.entries.specs.Ranges.{between}
-use Rattle.entries.specs.Data.{carries, of_contribution}
+use Rattle.entries.specs.Data.{name_of, carries, of_contribution}
 use Rattle.entries.specs.Refusals.{refusal_number, Row, ◌⇒◌, check_rows, decided_of}
 use Rattle.entries.specs.declared.data.Data.{Data}
+use Rattle.entries.specs.declared.refusals.Refusal.{Refusal}
 use Rattle.entries.specs.declared.refusals.Refusal.TheVariants as no
-use Rattle.entries.specs.declared.refusals.Check.TheVariants as check
 use Rattle.book.specs.Fresh.{accounts_most}
-use Rattle.book.specs.Chain.{Sought, missing, found, sought_in}
+use Rattle.book.specs.Chain.{sought_in}
+use Rattle.book.specs.declared.Found.{Found}
+use Rattle.book.specs.declared.Found.TheVariants.{At, Nothing}
 use Rattle.book.specs.declared.Book.{Book}
 use Rattle.queries.specs.Chain.{walk_at}
 use Rattle.queries.specs.Replies.{contribution_reply}
-use Rattle.queries.specs.declared.contributions.ContributionAnswer.{ContributionAnswer}
-use Rattle.queries.specs.declared.contributions.ContributionAnswer.TheVariants.{Refused, Given}
+use Rattle.queries.specs.declared.contributions.ContributionFigures.{ContributionFigures}
 use Rattle.queries.specs.declared.contributions.ContributionReply.{ContributionReply}
+
+abbrev pub ContributionAnswer : Type 0
+ContributionAnswer = Result ContributionFigures Refusal
 
 -- refused: the number and otherwise zeros; given: the figures
 unfoldable pub contribution_reply_of : ContributionAnswer → ContributionReply
-contribution_reply_of (Refused n) = contribution_reply (refusal_number n) 0 0 0 0 0 0 false
-contribution_reply_of (Given f) =
+contribution_reply_of (Err n) = contribution_reply (refusal_number n) 0 0 0 0 0 0 false
+contribution_reply_of (Ok f) =
     contribution_reply 0
     f.amount.0
     f.to_arrears.0
@@ -29,7 +33,7 @@ contribution_reply_of (Given f) =
     f.closed
 
 abbrev pub not_on_chain : ContributionReply
-not_on_chain = contribution_reply_of (Refused no.NotOnChain)
+not_on_chain = contribution_reply_of (Err no.NotOnChain)
 
 -- a contribution's figures; no other entry has them, nor an unused one
 unfoldable pub contribution_figures_of : Data → ContributionReply
@@ -40,9 +44,9 @@ contribution_figures_of d =
     not_on_chain
 
 -- of the entry that a search ends in
-unfoldable pub known_of : Sought → ContributionReply
-known_of missing = not_on_chain
-known_of (found i e) = contribution_figures_of e.«data»
+unfoldable pub known_of : Found → ContributionReply
+known_of Nothing = not_on_chain
+known_of (At l) = contribution_figures_of l.entry.«data»
 
 abbrev pub contribution_rows : ℕ → ℕ → List Row
 contribution_rows account node =
@@ -51,5 +55,5 @@ contribution_rows account node =
 -- 2, 3, then 8: no such entry on the account's chain, or not a contribution
 unfoldable pub contribution_query_of : Book → ℕ → ℕ → ℕ → ContributionReply
 contribution_query_of b account node serial =
-    decided_of (check_rows check.Passed (contribution_rows account node)) (λ n. contribution_reply_of (Refused n))
-    (known_of (sought_in (carries node serial) (walk_at b account)))
+    decided_of (check_rows (contribution_rows account node)) (λ n. contribution_reply_of (Err n))
+    (known_of (sought_in (carries (name_of node serial)) (walk_at b account)))

@@ -1,10 +1,9 @@
 -- The walk of a chain that the statement's code makes: what it counted and summed so far. No promise of a call cites this.
-use Rattle.std.specs.Prelude.{ℕ, Bool, cond, leb}
+use Rattle.std.specs.Prelude.{ℕ, cond, leb}
 use Rattle.measures.specs.Cents.{cents, plus_of}
 use Rattle.measures.specs.declared.Cents.{Cents}
 use Rattle.entries.specs.Kinds.{counts_with_bills}
-use Rattle.entries.specs.Data.{particulars_of, one_more}
-use Rattle.entries.specs.declared.data.Particulars.{Particulars}
+use Rattle.entries.specs.Data.{particulars_of, standing_if, one_more}
 use Rattle.entries.specs.declared.data.Entry.{Entry}
 use Rattle.rules.specs.declared.accounts.Account.{Account}
 use Rattle.queries.specs.Chain.{is_payment}
@@ -18,10 +17,6 @@ sums length links_read held bills payments =
 abbrev pub no_sums : Sums
 no_sums = sums 0 0 (cents 0) (cents 0) (cents 0)
 
--- the standing amount of an entry that counts
-unfoldable pub standing_in : Bool → Particulars → Cents
-standing_in counts n = cond counts n.standing (cents 0)
-
 -- with one entry more, which is read where fewer than the allowance were before it
 unfoldable pub sums_with : Sums → Entry → ℕ → Sums
 sums_with s e allowance =
@@ -31,8 +26,8 @@ sums_with s e allowance =
     (sums (one_more s.length)
     (one_more s.links_read)
     (plus_of s.held n.held)
-    (plus_of s.bills (standing_in (counts_with_bills n.kind) n))
-    (plus_of s.payments (standing_in (is_payment n.kind) n)))
+    (plus_of s.bills (standing_if (counts_with_bills n.kind) n))
+    (plus_of s.payments (standing_if (is_payment n.kind) n)))
 
 unfoldable pub statement_figures_of : Sums → Account → ℕ → StatementFigures
 statement_figures_of s acc allowance =

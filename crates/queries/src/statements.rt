@@ -1,14 +1,14 @@
 // The statement of an account.
 ghost use Rattle.std.specs.Prelude.{◌≡◌};
-ghost use Rattle.queries.specs.Walk.{standing_in, no_sums, sums_with, statement_figures_of};
+ghost use Rattle.queries.specs.Walk.{no_sums, sums_with, statement_figures_of};
 ghost use Rattle.queries.specs.Statements.{statement_reply_of, statement_of};
 
-use book::{Book, ends, slot};
-use entries::{Entry, Kind, Particulars, Refusal, one_more, within};
+use book::{Book, check_account};
+use entries::{Entry, Kind, Refusal, one_more};
 use measures::Cents;
 use rules::Account;
 
-#[derive(Clone, Copy)]
+#[derive(Clone, Copy, Debug, PartialEq, Eq)]
 pub struct StatementFigures {
     pub arrears: Cents,
     pub credit: Cents,
@@ -22,14 +22,10 @@ pub struct StatementFigures {
     pub complete: bool,
 }
 
-#[derive(Clone, Copy)]
-pub enum StatementAnswer {
-    Refused(Refusal),
-    Given(StatementFigures),
-}
+pub type StatementAnswer = Result<StatementFigures, Refusal>;
 
 // An answer in document 01's numbers.
-#[derive(Clone, Copy)]
+#[derive(Clone, Copy, Debug, Default, PartialEq, Eq)]
 pub struct StatementReply {
     pub refusal: u8,
     pub arrears: u64,
@@ -42,24 +38,17 @@ pub struct StatementReply {
     pub complete: bool,
 }
 
-impl StatementAnswer {
+impl From<StatementAnswer> for StatementReply {
+    ghost from_gives = { λ answer reply. reply ≡ statement_reply_of answer };
+
     #[tactic(auto, unfolding(crate::specs::Statements::statement_reply_of))]
-    pub fn reply(self) -> StatementReply
-        ensures { result ≡ statement_reply_of self }
-    {
-        match self {
-            StatementAnswer::Refused(refusal) => StatementReply {
-                refusal: refusal.number(),
-                arrears: 0,
-                credit: 0,
-                deposit: 0,
-                held: 0,
-                links_read: 0,
-                bills: 0,
-                payments: 0,
-                complete: false,
+    fn from(answer: StatementAnswer) -> StatementReply {
+        match answer {
+            Err(refusal) => StatementReply {
+                refusal: refusal.into(),
+                ..StatementReply::default()
             },
-            StatementAnswer::Given(figures) => StatementReply {
+            Ok(figures) => StatementReply {
                 refusal: 0,
                 arrears: figures.arrears.0,
                 credit: figures.credit.0,
@@ -85,18 +74,6 @@ struct Sums {
     payments: Cents,
 }
 
-// The standing amount of an entry that counts, and 0 of another.
-#[tactic(auto, unfolding(crate::specs::Walk::standing_in))]
-fn standing(particulars: Particulars, counts: bool) -> Cents
-    ensures { result ≡ standing_in counts particulars }
-{
-    if counts {
-        particulars.standing
-    } else {
-        Cents(0)
-    }
-}
-
 impl Sums {
     fn none() -> Sums
         ensures { result ≡ no_sums }
@@ -115,30 +92,23 @@ impl Sums {
     fn with(self, entry: Entry, allowance: u64) -> Sums
         ensures { result ≡ sums_with self entry allowance }
     {
-        let data = entry.data;
-        let particulars = data.particulars();
-        let length = one_more(self.length);
-        let held = self.held.plus(particulars.held);
-        if allowance <= self.links_read as u64 {
-            let bills = self.bills;
-            let payments = self.payments;
-            return Sums {
-                length,
-                links_read: self.links_read,
-                held,
-                bills,
-                payments,
-            };
+        let particulars = entry.data.particulars();
+        let passed = Sums {
+            length: one_more(self.length),
+            held: self.held.plus(particulars.held),
+            ..self
+        };
+        if allowance <= u64::from(self.links_read) {
+            return passed;
         }
         let kind = particulars.kind;
-        let billed = standing(particulars, kind.counts_with_bills());
-        let paid = standing(particulars, kind.is(Kind::Payment));
+        let billed = particulars.standing_if(kind.counts_with_bills());
+        let paid = particulars.standing_if(kind == Kind::Payment);
         Sums {
-            length,
             links_read: one_more(self.links_read),
-            held,
             bills: self.bills.plus(billed),
             payments: self.payments.plus(paid),
+            ..passed
         }
     }
 
@@ -147,49 +117,29 @@ impl Sums {
     fn figures(self, account: Account, allowance: u64) -> StatementFigures
         ensures { result ≡ statement_figures_of self account allowance }
     {
-        let arrears = account.arrears;
-        let credit = account.credit;
-        let deposit = account.deposit;
-        let held = self.held;
-        let links_read = self.links_read;
-        let complete = self.length as u64 <= allowance;
-        let bills = self.bills;
-        let payments = self.payments;
         StatementFigures {
-            arrears,
-            credit,
-            deposit,
-            held,
-            links_read,
-            bills,
-            payments,
-            complete,
+            arrears: account.arrears,
+            credit: account.credit,
+            deposit: account.deposit,
+            held: self.held,
+            links_read: self.links_read,
+            bills: self.bills,
+            payments: self.payments,
+            complete: u64::from(self.length) <= allowance,
         }
     }
 }
 
 // The statement of an account, whose chain is read newest first as far as the allowance goes.
-pub fn statement(book: Book, account: u16, allowance: u64) -> StatementAnswer
-    ensures { statement_reply_of result ≡ statement_of book account allowance }
+#[tactic(auto, using(crate::proofs::StatementsLaws::refused, crate::proofs::StatementsLaws::given), unfolding(entries::specs::Refusals::refuse_if))]
+pub fn statement(book: &Book, account: u16, allowance: u64) -> StatementAnswer
+    ensures { statement_reply_of result ≡ statement_of book.now account allowance }
 {
-    if !within(account as u32, 1, Book::ACCOUNTS as u32) {
-        return StatementAnswer::Refused(Refusal::UnknownAccount);
-    }
-    let a = slot(account);
-    let own = book.accounts[a];
-    let mut at = own.newest;
+    check_account(account)?;
+    let own = book.account(account);
     let mut sums = Sums::none();
-    let mut left = Book::ENTRIES;
-    while 0 < left {
-        if ends(at) {
-            left = 0;
-        } else {
-            let i = at as usize - 1;
-            let entry = book.entries[i];
-            sums = sums.with(entry, allowance);
-            at = entry.next;
-            left -= 1;
-        }
+    for link in book.chain(own.newest) {
+        sums = sums.with(link.entry, allowance);
     }
-    StatementAnswer::Given(sums.figures(own, allowance))
+    Ok(sums.figures(own, allowance))
 }

@@ -4,15 +4,14 @@ use Rattle.measures.specs.declared.Cents.{Cents}
 use Rattle.measures.specs.declared.Day.{Day}
 use Rattle.calendar.specs.Periods.{years_on}
 use Rattle.entries.specs.Kinds.{same_of, misnames_of}
-use Rattle.entries.specs.Refusals.{Row, ◌⇒◌, check_rows}
+use Rattle.entries.specs.Refusals.{Check, Row, ◌⇒◌, check_rows}
 use Rattle.entries.specs.Data.{particulars_of}
 use Rattle.entries.specs.declared.raw.Raw.{Raw}
 use Rattle.entries.specs.declared.kinds.Kind.{Kind}
 use Rattle.entries.specs.declared.kinds.Kind.TheVariants as kind
 use Rattle.entries.specs.declared.data.Entry.{Entry}
+use Rattle.entries.specs.declared.data.Particulars.{Particulars}
 use Rattle.entries.specs.declared.refusals.Refusal.TheVariants as no
-use Rattle.entries.specs.declared.refusals.Check.{Check}
-use Rattle.entries.specs.declared.refusals.Check.TheVariants as check
 use Rattle.rules.specs.declared.accounts.Account.{Account}
 
 -- the calendar years from a contribution on in which added customers bring refunds
@@ -51,6 +50,23 @@ own_rows r k acc =
     (same_of k kind.DepositReturn && ltb r.day acc.deposited.0 ⇒ no.DayBefore) ∷
     []
 
+-- of an entry that names one of these particulars: the line, and the correction
+abbrev pub named_rows : Raw → Kind → Particulars → List Row
+named_rows r k n =
+    (same_of k kind.AddedCustomer && (eqb r.b 1 && eqb n.phases 3) ⇒ no.OnePhase) ∷
+    (same_of k kind.AddedCustomer && ltb n.built.0 r.a ⇒ no.MetresExceeded) ∷
+    (n.corrected ⇒ no.CorrectedBefore) ∷
+    []
+
+-- the period first, from the named entry's day
+abbrev pub period_rows : Raw → Kind → Day → Particulars → List Row
+period_rows r k day n =
+    (same_of k kind.AddedCustomer && leb (period_end k day) r.day ⇒ no.PeriodOver) ∷
+    (same_of k kind.Expiry && ltb r.day (period_end k day) ⇒ no.PeriodRunning) ∷
+    (same_of k kind.Reduction && ltb r.day (next_reduction n.reduced) ⇒ no.ReductionEarly) ∷
+    (same_of k kind.Retention && ltb r.day (period_end k day) ⇒ no.RetentionEarly) ∷
+    named_rows r k n
+
 -- of an entry that names e
 abbrev pub naming_rows : Raw → Kind → Entry → List Row
 naming_rows r k e =
@@ -58,17 +74,10 @@ naming_rows r k e =
     (misnames_of k n.kind ⇒ no.NotOnChain) ∷
     (ltb r.day e.day.0 ⇒ no.DayBefore) ∷
     (n.closed ⇒ no.Closed) ∷
-    (same_of k kind.AddedCustomer && leb (period_end k e.day) r.day ⇒ no.PeriodOver) ∷
-    (same_of k kind.Expiry && ltb r.day (period_end k e.day) ⇒ no.PeriodRunning) ∷
-    (same_of k kind.Reduction && ltb r.day (next_reduction n.reduced) ⇒ no.ReductionEarly) ∷
-    (same_of k kind.Retention && ltb r.day (period_end k e.day) ⇒ no.RetentionEarly) ∷
-    (same_of k kind.AddedCustomer && (eqb r.b 1 && eqb n.phases 3) ⇒ no.OnePhase) ∷
-    (same_of k kind.AddedCustomer && ltb n.built.0 r.a ⇒ no.MetresExceeded) ∷
-    (n.corrected ⇒ no.CorrectedBefore) ∷
-    []
+    period_rows r k e.day n
 
 unfoldable pub check_own_of : Raw → Kind → Account → Check
-check_own_of r k acc = check_rows check.Passed (own_rows r k acc)
+check_own_of r k acc = check_rows (own_rows r k acc)
 
 unfoldable pub check_naming_of : Raw → Kind → Entry → Check
-check_naming_of r k e = check_rows check.Passed (naming_rows r k e)
+check_naming_of r k e = check_rows (naming_rows r k e)

@@ -8,7 +8,8 @@ use measures::{Cents, Day};
 pub struct Account {
     pub arrears: Cents,
     pub credit: Cents,
-    // The deposit held, its yearly rate in hundredths of a percent, and its day: all 0 while none is held.
+    // The deposit held, its yearly rate in hundredths of a percent, and its day: all 0 while none is held, since a deposit of 0 is added and
+    // shown as any other.
     pub deposit: Cents,
     pub rate: u64,
     pub deposited: Day,

@@ -1,12 +1,12 @@
 // What a posting answers.
 ghost use Rattle.std.specs.Prelude.{◌≡◌};
-ghost use Rattle.rules.specs.Answers.{amounts_of, posting_reply_of};
+ghost use Rattle.rules.specs.Answers.{posting_reply_of};
 
 use entries::Refusal;
 use measures::Cents;
 
 // The four amounts of an accepted posting: arrears settled by a credit, paid out, retained, interest.
-#[derive(Clone, Copy)]
+#[derive(Clone, Copy, Debug, PartialEq, Eq)]
 pub struct Amounts {
     pub settled: Cents,
     pub paid_out: Cents,
@@ -14,14 +14,17 @@ pub struct Amounts {
     pub interest: Cents,
 }
 
-#[derive(Clone, Copy)]
-pub enum PostingAnswer {
-    Refused(Refusal),
-    Accepted { number: u16, amounts: Amounts },
+// An accepted posting: the entry's number, and the amounts.
+#[derive(Clone, Copy, Debug, PartialEq, Eq)]
+pub struct Accepted {
+    pub number: u16,
+    pub amounts: Amounts,
 }
 
+pub type PostingAnswer = Result<Accepted, Refusal>;
+
 // An answer in the documents' numbers.
-#[derive(Clone, Copy)]
+#[derive(Clone, Copy, Debug, Default, PartialEq, Eq)]
 pub struct PostingReply {
     pub refusal: u8,
     pub number: u16,
@@ -32,33 +35,25 @@ pub struct PostingReply {
 }
 
 impl Amounts {
-    pub fn of(settled: Cents, paid_out: Cents, retained: Cents, interest: Cents) -> Amounts
-        ensures { result ≡ amounts_of settled paid_out retained interest }
-    {
-        Amounts {
-            settled,
-            paid_out,
-            retained,
-            interest,
-        }
-    }
+    pub const NONE: Amounts = Amounts {
+        settled: Cents(0),
+        paid_out: Cents(0),
+        retained: Cents(0),
+        interest: Cents(0),
+    };
 }
 
-impl PostingAnswer {
+impl From<PostingAnswer> for PostingReply {
+    ghost from_gives = { λ answer reply. reply ≡ posting_reply_of answer };
+
     #[tactic(auto, unfolding(crate::specs::Answers::posting_reply_of))]
-    pub fn reply(self) -> PostingReply
-        ensures { result ≡ posting_reply_of self }
-    {
-        match self {
-            PostingAnswer::Refused(refusal) => PostingReply {
-                refusal: refusal.number(),
-                number: 0,
-                settled: 0,
-                paid_out: 0,
-                retained: 0,
-                interest: 0,
+    fn from(answer: PostingAnswer) -> PostingReply {
+        match answer {
+            Err(refusal) => PostingReply {
+                refusal: refusal.into(),
+                ..PostingReply::default()
             },
-            PostingAnswer::Accepted { number, amounts } => PostingReply {
+            Ok(Accepted { number, amounts }) => PostingReply {
                 refusal: 0,
                 number,
                 settled: amounts.settled.0,

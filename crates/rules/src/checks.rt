@@ -1,10 +1,12 @@
 // The refusals that the account and the named entry decide: 8 to 16, and 24 to 26.
-ghost use Rattle.std.specs.Prelude.{◌≡◌};
-ghost use Rattle.rules.specs.Checks.{period_years, next_reduction, deposit_clash, check_own_of, check_naming_of};
+ghost use Rattle.std.specs.Prelude.{◌≡◌, ◌&&◌};
+ghost use Rattle.entries.specs.Kinds.{same_of};
+ghost use Rattle.entries.specs.Refusals.{refuse_if, check_rows};
+ghost use Rattle.rules.specs.Checks.{period_years, next_reduction, deposit_clash, named_rows, period_rows, check_own_of, check_naming_of};
 
 use crate::accounts::Account;
 use calendar::years_on;
-use entries::{Check, Entry, Kind, Raw, Refusal, both, either};
+use entries::{Entry, Kind, Particulars, Raw, Refusal, refuse_if};
 use measures::{Cents, Day};
 
 // The calendar years from a contribution on in which added customers bring refunds; an expiry comes after them.
@@ -17,7 +19,7 @@ const GUARANTEE_YEARS: u8 = 5;
 fn period_years(kind: Kind) -> u8
     ensures { result ≡ period_years kind }
 {
-    if kind.is(Kind::Retention) {
+    if kind == Kind::Retention {
         GUARANTEE_YEARS
     } else {
         REFUND_YEARS
@@ -31,72 +33,79 @@ const REDUCTION_INTERVAL: u16 = 365;
 fn next_reduction(reduced: Day) -> u32
     ensures { result ≡ next_reduction reduced }
 {
-    reduced.0 as u32 + REDUCTION_INTERVAL as u32
+    u32::from(reduced.0) + u32::from(REDUCTION_INTERVAL)
 }
 
 // A deposit comes while one is held, or a return while none is.
 fn deposit_clash(kind: Kind, held: Cents) -> bool
     ensures { result ≡ deposit_clash kind held }
 {
-    either(
-        both(kind.is(Kind::Deposit), 0 < held.0),
-        both(kind.is(Kind::DepositReturn), held.0 == 0),
-    )
+    kind == Kind::Deposit && 0 < held.0 || kind == Kind::DepositReturn && held.0 == 0
+}
+
+// A rule for entries of one kind.
+fn refuse_of(kind: Kind, of: Kind, broken: bool, refusal: Refusal) -> Result<(), Refusal>
+    ensures { result ≡ refuse_if (same_of kind of && broken) refusal }
+{
+    refuse_if(kind == of && broken, refusal)
 }
 
 // 9, 24 and 10 of an entry that names nothing.
-#[tactic(auto, unfolding(crate::specs::Checks::check_own_of))]
-pub fn check_own(raw: Raw, kind: Kind, account: Account) -> Check
+#[tactic(auto, unfolding(crate::specs::Checks::check_own_of, entries::specs::Refusals::refuse_if))]
+pub fn check_own(raw: Raw, kind: Kind, account: Account) -> Result<(), Refusal>
     ensures { result ≡ check_own_of raw kind account }
 {
     let before = raw.day < account.deposited.0;
-    Check::Passed
-        .refuse_if(deposit_clash(kind, account.deposit), Refusal::DepositState)
-        .refuse_if(
-            both(kind.is(Kind::Guarantee), account.guarantee_open),
-            Refusal::GuaranteeOpen,
-        )
-        .refuse_if(
-            both(kind.is(Kind::DepositReturn), before),
-            Refusal::DayBefore,
-        )
+    refuse_if(deposit_clash(kind, account.deposit), Refusal::DepositState)?;
+    refuse_of(
+        kind,
+        Kind::Guarantee,
+        account.guarantee_open,
+        Refusal::GuaranteeOpen,
+    )?;
+    refuse_of(kind, Kind::DepositReturn, before, Refusal::DayBefore)
 }
 
-// 8, for the kind of the named entry, 10 to 13, 25, 26 and 14 to 16 of an entry that names one.
-#[tactic(auto, unfolding(crate::specs::Checks::check_naming_of))]
-pub fn check_naming(raw: Raw, kind: Kind, entry: Entry) -> Check
+// 14 to 16 of an entry that names one of these particulars.
+#[tactic(auto, unfolding(entries::specs::Refusals::refuse_if))]
+fn check_named(raw: Raw, kind: Kind, named: Particulars) -> Result<(), Refusal>
+    ensures { result ≡ check_rows (named_rows raw kind named) }
+{
+    let one_to_three = raw.b == 1 && named.phases == 3;
+    let beyond = named.built.0 < raw.a;
+    refuse_of(kind, Kind::AddedCustomer, one_to_three, Refusal::OnePhase)?;
+    refuse_of(kind, Kind::AddedCustomer, beyond, Refusal::MetresExceeded)?;
+    refuse_if(named.corrected, Refusal::CorrectedBefore)
+}
+
+// 12, 13, 25 and 26, and then 14 to 16, of an entry that names one of a day and of these particulars.
+#[tactic(auto, unfolding(entries::specs::Refusals::refuse_if))]
+fn check_period(raw: Raw, kind: Kind, day: Day, named: Particulars) -> Result<(), Refusal>
+    ensures { result ≡ check_rows (period_rows raw kind «day» named) }
+{
+    let end = years_on(day, period_years(kind)).0;
+    let running = raw.day < end;
+    let early = u32::from(raw.day) < next_reduction(named.reduced);
+    refuse_of(
+        kind,
+        Kind::AddedCustomer,
+        end <= raw.day,
+        Refusal::PeriodOver,
+    )?;
+    refuse_of(kind, Kind::Expiry, running, Refusal::PeriodRunning)?;
+    refuse_of(kind, Kind::Reduction, early, Refusal::ReductionEarly)?;
+    refuse_of(kind, Kind::Retention, running, Refusal::RetentionEarly)?;
+    check_named(raw, kind, named)
+}
+
+// 8, for the kind of the named entry, 10 and 11, and then the others of an entry that names one.
+#[tactic(auto, unfolding(crate::specs::Checks::check_naming_of, entries::specs::Refusals::refuse_if))]
+pub fn check_naming(raw: Raw, kind: Kind, entry: Entry) -> Result<(), Refusal>
     ensures { result ≡ check_naming_of raw kind entry }
 {
-    let data = entry.data;
-    let particulars = data.particulars();
-    let named_kind = particulars.kind;
-    let end = years_on(entry.day, period_years(kind)).0;
-    let added = kind.is(Kind::AddedCustomer);
-    let one_to_three = both(raw.b == 1, particulars.phases == 3);
-    Check::Passed
-        .refuse_if(kind.misnames(named_kind), Refusal::NotOnChain)
-        .refuse_if(raw.day < entry.day.0, Refusal::DayBefore)
-        .refuse_if(particulars.closed, Refusal::Closed)
-        .refuse_if(both(added, end <= raw.day), Refusal::PeriodOver)
-        .refuse_if(
-            both(kind.is(Kind::Expiry), raw.day < end),
-            Refusal::PeriodRunning,
-        )
-        .refuse_if(
-            both(
-                kind.is(Kind::Reduction),
-                (raw.day as u32) < next_reduction(particulars.reduced),
-            ),
-            Refusal::ReductionEarly,
-        )
-        .refuse_if(
-            both(kind.is(Kind::Retention), raw.day < end),
-            Refusal::RetentionEarly,
-        )
-        .refuse_if(both(added, one_to_three), Refusal::OnePhase)
-        .refuse_if(
-            both(added, particulars.built.0 < raw.a),
-            Refusal::MetresExceeded,
-        )
-        .refuse_if(particulars.corrected, Refusal::CorrectedBefore)
+    let named = entry.data.particulars();
+    refuse_if(kind.misnames(named.kind), Refusal::NotOnChain)?;
+    refuse_if(raw.day < entry.day.0, Refusal::DayBefore)?;
+    refuse_if(named.closed, Refusal::Closed)?;
+    check_period(raw, kind, entry.day, named)
 }

@@ -3,28 +3,26 @@ ghost use Rattle.std.specs.Prelude.{◌≡◌};
 ghost use Rattle.rules.specs.Formulas.{billed_of, refund_of, interest_of, given_back_of, late_amount_of};
 
 use entries::{Kind, Particulars};
-use measures::{Cents, Metres, product, quotient, smaller};
+use measures::{Cents, Metres};
 
 // The charge for the full period, for the days served of it.
 #[tactic(auto, unfolding(crate::specs::Formulas::billed_of))]
 pub fn billed(charge: Cents, served: u8, period: u16) -> Cents
     ensures { result ≡ billed_of charge served period }
 {
-    charge.times(served as u64).rounded(period as u64)
+    charge.times(u64::from(served)).rounded(u64::from(period))
 }
 
-// What one more customer on the line gives back: its share, and not more than is held. Cents and metres are unwrapped, and the
-// refund is cents again.
+// What one more customer on the line gives back: its share, and not more than is held.
 #[tactic(auto, unfolding(crate::specs::Formulas::refund_of))]
 pub fn refund(particulars: Particulars, shared: Metres) -> Cents
     ensures { result ≡ refund_of particulars shared }
 {
-    let contribution = particulars.amount.0;
-    let metres_shared = shared.0 as u64;
-    let metres_built = particulars.built.0 as u64;
-    let k = particulars.added as u64 + 2;
-    let share = quotient(product(contribution, metres_shared), metres_built * k);
-    Cents(smaller(particulars.held.0, share))
+    let k = u64::from(particulars.added) + 2;
+    let divisor = u64::from(particulars.built.0) * k;
+    let product = particulars.amount.times(u64::from(shared.0));
+    let share = product.0.checked_div(divisor).unwrap_or(0);
+    particulars.held.least(Cents(share))
 }
 
 // The days of a year times the hundredths of a percent in the whole.
@@ -35,7 +33,10 @@ const RATE_YEAR: u64 = 3650000;
 pub fn interest(deposit: Cents, rate: u64, days: u16) -> Cents
     ensures { result ≡ interest_of deposit rate days }
 {
-    deposit.times(rate).times(days as u64).rounded(RATE_YEAR)
+    deposit
+        .times(rate)
+        .times(u64::from(days))
+        .rounded(RATE_YEAR)
 }
 
 // What a reduction gives back: a tenth of the payments in its window, and not more than is held.
@@ -43,7 +44,7 @@ pub fn interest(deposit: Cents, rate: u64, days: u16) -> Cents
 pub fn given_back(held: Cents, paid: Cents) -> Cents
     ensures { result ≡ given_back_of held paid }
 {
-    Cents(smaller(held.0, paid.0 / 10))
+    held.least(Cents(paid.0 / 10))
 }
 
 // The hundredths of a percent in the whole.
@@ -55,7 +56,7 @@ pub fn late_amount(noted: Cents, rate: u16) -> Cents
     ensures { result ≡ late_amount_of noted rate }
 {
     noted
-        .times(rate as u64)
+        .times(u64::from(rate))
         .rounded(RATE_WHOLE)
-        .least(Cents(Kind::AMOUNT_MOST as u64))
+        .least(Cents(u64::from(Kind::AMOUNT_MOST)))
 }

@@ -8,7 +8,7 @@ mod formulas;
 mod windows;
 
 pub use accounts::{Account, Credited};
-pub use answers::{Amounts, PostingAnswer, PostingReply};
+pub use answers::{Accepted, Amounts, PostingAnswer, PostingReply};
 pub use checks::{check_naming, check_own};
 pub use formulas::{billed, given_back, interest, late_amount, refund};
 pub use windows::paid_within;

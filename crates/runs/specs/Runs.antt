@@ -1,31 +1,26 @@
 -- Late-charge runs on a book: an opening, a step and a close.
-use Rattle.std.specs.Prelude.{ℕ, ◌+◌, min, cond, not, List, [], ◌∷◌, map, get_or, drop, eqb, ltb}
+use Rattle.std.specs.Prelude.{ℕ, ◌+◌, min, cond, not, List, [], ◌∷◌, map, get_or, drop, eqb, ltb, Err}
 use Rattle.measures.specs.Cents.{cents}
 use Rattle.measures.specs.Days.{last_day}
 use Rattle.measures.specs.declared.Cents.{Cents}
 use Rattle.entries.specs.Kinds.{number_of}
 use Rattle.entries.specs.Ranges.{between}
-use Rattle.entries.specs.Refusals.{refusal_number, Row, ◌⇒◌, check_rows, decided_of}
+use Rattle.entries.specs.Refusals.{refusal_number, check_number, Check, Row, ◌⇒◌, check_rows, decided_of}
 use Rattle.entries.specs.declared.raw.Raw.{Raw}
 use Rattle.entries.specs.declared.kinds.Kind.TheVariants as kind
 use Rattle.entries.specs.declared.refusals.Refusal.TheVariants as no
-use Rattle.entries.specs.declared.refusals.Check.{Check}
-use Rattle.entries.specs.declared.refusals.Check.TheVariants as check
 use Rattle.rules.specs.Answers.{posting_reply_of}
 use Rattle.rules.specs.Formulas.{late_amount_of, run_rate_most}
 use Rattle.rules.specs.declared.accounts.Account.{Account}
-use Rattle.rules.specs.declared.answers.PostingAnswer.TheVariants as answer
 use Rattle.book.specs.Runs.{run_of, no_run, is_open}
 use Rattle.book.specs.Fresh.{none_noted}
 use Rattle.book.specs.Chain.{slot_of}
 use Rattle.book.specs.Serials.{last_of}
 use Rattle.book.specs.Posting.{PostedReply, record_of}
 use Rattle.book.specs.declared.Book.{Book}
+use Rattle.book.specs.declared.Next.{Next}
 use Rattle.book.specs.declared.Run.{Run}
 use Rattle.book.specs.declared.Serials.{Serials}
-use Rattle.runs.specs.declared.Ran.{Ran}
-use Rattle.runs.specs.declared.RunAnswer.{RunAnswer}
-use Rattle.runs.specs.declared.RunAnswer.TheVariants.{Refused, Accepted}
 
 -- a book with a run and noted arrears
 abbrev pub with_run : Book → Run → List Cents → Book
@@ -57,12 +52,8 @@ pub record RanReply : Type 0 where
   pub book : Book
   pub refusal : ℕ
 
-unfoldable pub run_number_of : RunAnswer → ℕ
-run_number_of (Refused n) = refusal_number n
-run_number_of Accepted = 0
-
-abbrev pub ran_reply : Ran → RanReply
-ran_reply r = record { book = r.book; refusal = run_number_of r.answer }
+abbrev pub ran_reply : Next Check → RanReply
+ran_reply r = record { book = r.book; refusal = check_number r.answer }
 
 -- 28: a run is open, or the node, the day or the rate is out of range
 abbrev pub opening_rows : Run → ℕ → ℕ → ℕ → List Row
@@ -74,7 +65,7 @@ opening_rows run node day rate =
     []
 
 unfoldable pub check_opening_of : Run → ℕ → ℕ → ℕ → Check
-check_opening_of run node day rate = check_rows check.Passed (opening_rows run node day rate)
+check_opening_of run node day rate = check_rows (opening_rows run node day rate)
 
 -- an opening notes every account's arrears; a refused one leaves the book as it was
 unfoldable pub open_run_of : Book → ℕ → ℕ → ℕ → RanReply
@@ -114,7 +105,7 @@ stepped_of b p =
 unfoldable pub step_of : Book → PostedReply
 step_of b =
     cond (is_open b.run) (stepped_of b (record_of b (charge_of b.run (noted_next b) b.last)))
-    (record { book = b; reply = posting_reply_of (answer.Refused no.RunState) })
+    (record { book = b; reply = posting_reply_of (Err no.RunState) })
 
 -- 28: no run is open
 unfoldable pub close_run_of : Book → RanReply

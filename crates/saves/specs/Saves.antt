@@ -1,8 +1,7 @@
 -- A save: the entries as they were given, recovered from the book's, and their image.
-use Rattle.std.specs.Prelude.{ℕ, ◌+◌, ◌*◌, min, List, [], ◌∷◌, ◌++◌, map, length, take, drop, ltb}
-use Rattle.entries.specs.Refusals.{refusal_number, Row, ◌⇒◌, check_rows, decided_of}
-use Rattle.entries.specs.declared.refusals.Check.{Check}
-use Rattle.entries.specs.declared.refusals.Check.TheVariants as check
+use Rattle.std.specs.Prelude.{ℕ, ◌+◌, ◌*◌, min, List, [], ◌∷◌, ◌++◌, map, length, take, drop, ltb, Result, Ok, Err}
+use Rattle.entries.specs.Refusals.{refusal_number, Check, Row, ◌⇒◌, check_rows, decided_of}
+use Rattle.entries.specs.declared.refusals.Refusal.{Refusal}
 use Rattle.entries.specs.declared.refusals.Refusal.TheVariants as no
 use Rattle.entries.specs.declared.data.Entry.{Entry}
 use Rattle.codec.specs.Records.{record_bytes, encode_all}
@@ -11,8 +10,6 @@ use Rattle.codec.specs.declared.Record.{Record}
 use Rattle.book.specs.Fresh.{entries_most}
 use Rattle.book.specs.Runs.{is_open}
 use Rattle.book.specs.declared.Book.{Book}
-use Rattle.saves.specs.declared.SaveAnswer.{SaveAnswer}
-use Rattle.saves.specs.declared.SaveAnswer.TheVariants.{Refused, Length}
 use Rattle.measures.specs.Cents.{cents}
 use Rattle.measures.specs.declared.Cents.{Cents}
 use Rattle.entries.specs.Kinds.{number_of}
@@ -46,17 +43,16 @@ abbrev pub raw_with : Entry → Data → Raw
 raw_with e Unused = raw_from kind.Unknown e (cents 0) 0 0 0 0
 raw_with e (Contribution phases built added closed amount held to_arrears paid_out retained) =
     raw_from kind.Contribution e amount 0 built.0 phases 0
-raw_with e (AddedCustomer named_node named_serial shared phases) =
-    raw_from kind.AddedCustomer e (cents 0) named_serial shared.0 phases named_node
+raw_with e (AddedCustomer named shared phases) = raw_from kind.AddedCustomer e (cents 0) named.serial shared.0 phases named.node
 raw_with e (Bill charge period served standing corrected) = raw_from kind.Bill e charge 0 period served 0
 raw_with e (Payment amount standing corrected) = raw_from kind.Payment e amount 0 0 0 0
 raw_with e (Deposit amount rate) = raw_from kind.Deposit e amount 0 rate 0 0
 raw_with e DepositReturn = raw_from kind.DepositReturn e (cents 0) 0 0 0 0
-raw_with e (Expiry named_node named_serial) = raw_from kind.Expiry e (cents 0) named_serial 0 0 named_node
-raw_with e (Correction named_node named_serial amount) = raw_from kind.Correction e amount named_serial 0 0 named_node
+raw_with e (Expiry named) = raw_from kind.Expiry e (cents 0) named.serial 0 0 named.node
+raw_with e (Correction named amount) = raw_from kind.Correction e amount named.serial 0 0 named.node
 raw_with e (Guarantee closed reduced amount held) = raw_from kind.Guarantee e amount 0 0 0 0
-raw_with e (Reduction named_node named_serial) = raw_from kind.Reduction e (cents 0) named_serial 0 0 named_node
-raw_with e (Retention named_node named_serial) = raw_from kind.Retention e (cents 0) named_serial 0 0 named_node
+raw_with e (Reduction named) = raw_from kind.Reduction e (cents 0) named.serial 0 0 named.node
+raw_with e (Retention named) = raw_from kind.Retention e (cents 0) named.serial 0 0 named.node
 raw_with e (LateCharge amount) = raw_from kind.LateCharge e amount 0 0 0 0
 
 unfoldable pub raw_of : Entry → Raw
@@ -91,16 +87,16 @@ refused_save n = record { refusal = n; bytes = 0 }
 abbrev pub accepted_save : ℕ → SaveReply
 accepted_save n = record { refusal = 0; bytes = n }
 
-unfoldable pub save_reply_of : SaveAnswer → SaveReply
-save_reply_of (Refused n) = refused_save (refusal_number n)
-save_reply_of (Length n) = accepted_save n
+unfoldable pub save_reply_of : Result ℕ Refusal → SaveReply
+save_reply_of (Err n) = refused_save (refusal_number n)
+save_reply_of (Ok n) = accepted_save n
 
 -- 29: a run is open; then 21: the buffer is shorter than the image
 abbrev pub save_rows : Book → List ℕ → List Row
 save_rows b buf = (is_open b.run ⇒ no.SaveInRun) ∷ (ltb (length buf) (bytes_of b) ⇒ no.BufferShort) ∷ []
 
 unfoldable pub check_save_of : Book → List ℕ → Check
-check_save_of b buf = check_rows check.Passed (save_rows b buf)
+check_save_of b buf = check_rows (save_rows b buf)
 
 unfoldable pub save_of : Book → List ℕ → SaveReply
 save_of b buf = decided_of (check_save_of b buf) (λ n. refused_save (refusal_number n)) (accepted_save (bytes_of b))

@@ -17,11 +17,10 @@ use text::{number, read_full};
 fn account_in(word: &[u8]) -> u16
     ensures { result ≡ account_in word.now }
 {
-    let n = number(word, 0);
-    if n.next != word.len() {
-        return 0;
+    match number(word) {
+        Some((n, [])) => u16::try_from(n).unwrap_or(0),
+        _ => 0,
     }
-    if 65535 < n.value { 0 } else { n.value as u16 }
 }
 
 fn main(rt: HostRuntime) -> io::Result<()> {

@@ -2,106 +2,137 @@
 #![tactic(auto)]
 
 use book::Book;
-use carry_lent::{AT_ONCE, carry_first};
-use entries::Raw;
-use loads::{LoadAnswer, Loaded};
+use carry::carry_over;
+use entries::{Kind, Raw};
+use loads::Loaded;
 use printer::print_loaded;
+use rules::PostingReply;
 use std::io;
 
-// An entry of account 9. Where it names another, that is node 1's.
-fn entry(
-    kind: u8,
-    node: u8,
-    day: u16,
-    serial: u32,
-    amount: u32,
-    named_serial: u32,
-    a: u16,
-    b: u8,
-) -> Raw {
+// An entry of account 9, with no amount and nothing named.
+fn entry(kind: Kind, node: u8, day: u16, serial: u32) -> Raw {
     Raw {
-        kind,
+        kind: kind.into(),
         node,
         account: 9,
         day,
         serial,
-        amount,
-        named_serial,
-        a,
-        b,
-        named_node: if named_serial == 0 { 0 } else { 1 },
+        ..Raw::default()
     }
 }
 
-fn print(rt: &impl Print, name: &str, number: u64) -> io::Result<()> {
-    print!(rt; "{name}{number}")
+// Names the entry that node 1 gave a serial.
+fn naming(entry: Raw, named_serial: u32) -> Raw {
+    Raw {
+        named_serial,
+        named_node: 1,
+        ..entry
+    }
 }
 
-// Posts the entry and prints the refusal, and what it settled and paid out.
-fn post(rt: &impl Print, book: Book, entry: Raw) -> io::Result<Book> {
-    let p = book.post(entry);
-    let answer = p.answer;
-    let reply = answer.reply();
-    print(rt, "posted: refusal ", reply.refusal as u64)?;
-    print(rt, ", settled ", reply.settled)?;
-    print(rt, ", paid out ", reply.paid_out)?;
-    println!(rt)?;
-    Ok(p.book)
+// Those of the story, by node 1 but for the second correction: a contribution of 60,000 for 100 m of one phase, a bill of 12,000, two
+// corrections of it, and a customer for the whole line.
+fn entries() -> [Raw; 5] {
+    [
+        Raw {
+            amount: 60000,
+            a: 100,
+            b: 1,
+            ..entry(Kind::Contribution, 1, 100, 1)
+        },
+        Raw {
+            amount: 12000,
+            a: 30,
+            b: 30,
+            ..entry(Kind::Bill, 1, 110, 2)
+        },
+        Raw {
+            amount: 10000,
+            ..naming(entry(Kind::Correction, 1, 120, 3), 2)
+        },
+        Raw {
+            amount: 9000,
+            ..naming(entry(Kind::Correction, 2, 121, 1), 2)
+        },
+        Raw {
+            a: 100,
+            b: 1,
+            ..naming(entry(Kind::AddedCustomer, 1, 130, 4), 1)
+        },
+    ]
 }
 
-fn print_result(rt: &impl Print, refusal: u8) -> io::Result<()> {
-    print(rt, "carried over: refusal ", refusal as u64)?;
-    println!(rt)
+// A node of the pair, which prints to standard output.
+#[derive(Drop)]
+struct Node<'a, P: Print> {
+    rt: &'a P,
+    name: &'a str,
+    book: Book,
 }
 
-// Carries the entry over and prints its place of the result list.
-fn carry(rt: &impl Print, book: Book, entry: Raw) -> io::Result<Book> {
-    let entries = [entry; AT_ONCE];
-    let mut results = [255u8; 1];
-    let carried = carry_first(book, entries, 1, &mut results);
-    print_result(rt, results[0])?;
-    Ok(carried.book)
-}
+impl<'a, P: Print> Node<'a, P> {
+    fn fresh(rt: &'a P, name: &'a str) -> Node<'a, P> {
+        Node {
+            rt,
+            name,
+            book: Book::fresh(),
+        }
+    }
 
-fn show(rt: &impl Print, name: &str, book: Book) -> io::Result<()> {
-    println!(rt; "{name}:")?;
-    let loaded = Loaded {
-        book,
-        answer: LoadAnswer::Accepted,
-    };
-    print_loaded(rt, loaded)
-}
+    // Posts the entry and prints the refusal, and what it settled and paid out.
+    fn post(&mut self, entry: Raw) -> io::Result<()> {
+        let reply = PostingReply::from(self.book.offer(entry));
+        println!(self.rt;
+            "posted: refusal {}, settled {}, paid out {}",
+            reply.refusal, reply.settled, reply.paid_out,
+        )
+    }
 
-fn show_both(rt: &impl Print, first: Book, second: Book) -> io::Result<()> {
-    show(rt, "node 1", first)?;
-    show(rt, "node 2", second)
+    // Carries the entry over and prints its place of the result list.
+    fn carry_over(&mut self, entry: Raw) -> io::Result<()> {
+        let mut results = [255];
+        self.book = carry_over(self.book, &[entry], &mut results).book;
+        println!(self.rt; "carried over: refusal {}", results[0])
+    }
+
+    fn show(&self) -> io::Result<()> {
+        println!(self.rt; "{}:", self.name)?;
+        let loaded = Loaded {
+            book: self.book,
+            answer: Ok(()),
+        };
+        print_loaded(self.rt, loaded)
+    }
 }
 
 fn main(rt: HostRuntime) -> io::Result<()> {
+    let mut first = Node::fresh(&rt, "node 1");
+    let mut second = Node::fresh(&rt, "node 2");
+    let [contribution, bill, to_ten, to_nine, customer] = entries();
+
     // Node 1 takes a contribution of 60,000 for 100 m of one phase and a bill of 12,000; both are carried over to node 2.
-    let contribution = entry(1, 1, 100, 1, 60000, 0, 100, 1);
-    let bill = entry(3, 1, 110, 2, 12000, 0, 30, 30);
-    let mut first = post(&rt, Book::fresh(), contribution)?;
-    first = post(&rt, first, bill)?;
-    let mut second = carry(&rt, Book::fresh(), contribution)?;
-    second = carry(&rt, second, bill)?;
-    show_both(&rt, first, second)?;
+    first.post(contribution)?;
+    first.post(bill)?;
+    second.carry_over(contribution)?;
+    second.carry_over(bill)?;
+    first.show()?;
+    second.show()?;
 
     // The link breaks. Node 1 corrects the bill to 10,000, node 2 corrects the same bill to 9,000.
-    let to_ten = entry(8, 1, 120, 3, 10000, 2, 0, 0);
-    let to_nine = entry(8, 2, 121, 1, 9000, 2, 0, 0);
-    first = post(&rt, first, to_ten)?;
-    second = post(&rt, second, to_nine)?;
-    show_both(&rt, first, second)?;
+    first.post(to_ten)?;
+    second.post(to_nine)?;
+    first.show()?;
+    second.show()?;
 
     // The link is back. Each correction is carried over to the other node, which has corrected the bill already: refused by 16.
-    first = carry(&rt, first, to_nine)?;
-    second = carry(&rt, second, to_ten)?;
-    show_both(&rt, first, second)?;
+    first.carry_over(to_nine)?;
+    second.carry_over(to_ten)?;
+    first.show()?;
+    second.show()?;
 
     // A customer joins, for the whole line: a refund of 30,000. It settles the arrears, and only the rest is paid out.
-    let customer = entry(2, 1, 130, 4, 0, 1, 100, 1);
-    first = post(&rt, first, customer)?;
-    second = carry(&rt, second, customer)?;
-    show_both(&rt, first, second)
+    first.post(customer)?;
+    second.carry_over(customer)?;
+    first.show()?;
+    second.show()
 }

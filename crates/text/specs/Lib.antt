@@ -1,1 +1,3 @@
+pub mod Books
 pub mod Reading
+pub mod Writing

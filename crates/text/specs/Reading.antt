@@ -1,19 +1,18 @@
--- The number that a line has at a place.
-use Rattle.std.specs.Prelude.{ℕ, ◌+◌, ◌*◌, ◌-◌, cond, List, [], ◌∷◌, ltb}
-use Rattle.text.specs.declared.reading.Parsed.{Parsed}
+-- The number that a text begins with.
+use Rattle.std.specs.Prelude.{ℕ, ◌+◌, ◌*◌, ◌-◌, cond, Option, Some, None, List, [], ◌∷◌, leb}
+use Rattle.std.specs.Char.{is_ascii_digit}
 
--- a digit's value, and 10 for any other byte
-unfoldable pub digit_of : ℕ → ℕ
-digit_of byte = cond (ltb byte 48) 10 (cond (ltb 57 byte) 10 (byte - 48))
+-- The digits are read one by one, with the value of those before: the value of all, and the bytes after them. One beyond 64 bits is
+-- none.
+unfoldable pub number_from : ℕ → List ℕ → Option (ℕ × List ℕ)
+number_from value [] = Some (value, [])
+number_from value (byte ∷ rest) =
+    let grown = value * 10 + (byte - 48) in
+    cond (is_ascii_digit byte)
+    (cond (leb grown 18446744073709551615) (number_from grown rest) None)
+    (Some (value, byte ∷ rest))
 
-abbrev pub parsed : ℕ → ℕ → Parsed
-parsed value next = record { value = value; next = next }
-
--- The digits are read one by one, with the value of those before and the place. The number ends with the text or before a byte
--- that is no digit. One beyond 64 bits is none: the place after it is the place where it begins.
-unfoldable pub number_in : ℕ → List ℕ → ℕ → ℕ → Parsed
-number_in from [] value at = parsed value at
-number_in from (byte ∷ rest) value at =
-    let grown = value * 10 + digit_of byte in
-    cond (ltb 9 (digit_of byte)) (parsed value at)
-    (cond (ltb 18446744073709551615 grown) (parsed 0 from) (number_in from rest grown (at + 1)))
+-- the number and the bytes after it; none where no digit stands first
+unfoldable pub number_in : List ℕ → Option (ℕ × List ℕ)
+number_in [] = None
+number_in (byte ∷ rest) = cond (is_ascii_digit byte) (number_from 0 (byte ∷ rest)) None

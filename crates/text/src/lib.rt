@@ -1,14 +1,14 @@
-// Lines of text, each a letter and decimal numbers: how they are read and written, and which are understood.
+// Lines of text, each a letter and decimal numbers: the calls that they are, and bytes as such numbers.
 #![tactic(auto)]
 
+mod calls;
 mod input;
-mod lists;
 mod reading;
-mod shapes;
 mod writing;
 
+pub use calls::{
+    BUFFER, BookNumber, Call, Change, PLACES, Places, Room, SHOWN, Span, Unclear, understood,
+};
 pub use input::read_full;
-pub use lists::at;
-pub use reading::{LONGEST_READ, Line, NUMBERS, Parsed, number};
-pub use shapes::{BUFFER, PLACES, SHOWN, understood};
-pub use writing::{first, put, write};
+pub use reading::{LONGEST_READ, NUMBERS, number};
+pub use writing::Spaced;

@@ -1,6 +1,7 @@
-// A line of text as a letter and decimal numbers.
-ghost use Rattle.std.specs.Prelude.{◌≤◌, ◌≡◌, drop};
-ghost use Rattle.text.specs.Reading.{digit_of, number_in};
+// The numbers of a line.
+ghost use Rattle.std.specs.Prelude.{◌≡◌};
+ghost use Rattle.std.specs.Option.{option_map};
+ghost use Rattle.text.specs.Reading.{number_in};
 
 // The longest line that is read. A comment may be longer.
 pub const LONGEST_READ: usize = 4095;
@@ -8,101 +9,48 @@ pub const LONGEST_READ: usize = 4095;
 // No such line has more numbers.
 pub const NUMBERS: usize = 2047;
 
-#[derive(Clone, Copy)]
-pub enum Line {
-    // An empty line or a comment.
-    Nothing,
-    Unclear,
-    // The numbers stand at the start of the lent list.
-    Call { letter: u8, count: usize },
-}
-
-// A number and the place after it.
-#[derive(Clone, Copy)]
-pub struct Parsed {
-    pub value: u64,
-    pub next: usize,
-}
-
-// A digit's value, and 10 for any other byte.
-#[tactic(auto, unfolding(crate::specs::Reading::digit_of))]
-fn digit(byte: u8) -> u64
-    ensures { (result ≤ 10) × (result ≡ digit_of byte) }
+// The number that a text begins with, and the bytes after it. None where no digit stands first, or the number is beyond 64 bits.
+#[tactic(auto, unfolding(crate::specs::Reading::number_in, crate::specs::Reading::number_from))]
+pub fn number(text: &[u8]) -> Option<(u64, &[u8])>
+    ensures { option_map (λ p. (p.0, p.1.now)) result ≡ number_in text.now }
 {
-    if byte < b'0' {
-        return 10;
-    }
-    if b'9' < byte {
-        10
-    } else {
-        (byte - b'0') as u64
-    }
-}
-
-// The number that begins at a place. Where none does, or one beyond 64 bits, the place after it is the place itself.
-#[tactic(auto, using(crate::proofs::ReadingLaws::number_ends, crate::proofs::ReadingLaws::number_stops, crate::proofs::ReadingLaws::number_beyond, crate::proofs::ReadingLaws::number_goes_on))]
-pub fn number(line: &[u8], from: usize) -> Parsed
-    ensures { (from ≤ result.next) × (result ≡ number_in from (drop from line.now) 0 from) }
-{
-    let mut at = from;
+    let [b'0'..=b'9', ..] = text else {
+        return None;
+    };
     let mut value: u64 = 0;
-    while at < line.len() {
-        let d = digit(line[at]);
-        if 9 < d {
-            return Parsed { value, next: at };
-        }
-        if (u64::MAX - d) / 10 < value {
-            return Parsed {
-                value: 0,
-                next: from,
-            };
-        }
-        value = value * 10 + d;
-        at += 1;
+    let mut rest = text;
+    while let [byte @ b'0'..=b'9', after @ ..] = rest {
+        value = value.checked_mul(10)?.checked_add(u64::from(*byte - b'0'))?;
+        rest = after;
     }
-    Parsed { value, next: at }
+    Some((value, rest))
 }
 
-// The first place from a place on that has no space.
-fn after_spaces(line: &[u8], from: usize) -> usize
-    ensures { from ≤ result }
-{
-    let mut at = from;
-    while at < line.len() {
-        if line[at] != b' ' {
-            return at;
-        }
-        at += 1;
-    }
-    at
-}
+// What is left of a line.
+#[derive(Clone, Copy)]
+pub(crate) struct Numbers<'a>(&'a [u8]);
 
-// Reads a line's numbers into a lent list.
-pub fn read(line: &[u8], numbers: &mut [u64]) -> Line {
-    if line.len() == 0 {
-        return Line::Nothing;
+impl<'a> Numbers<'a> {
+    pub(crate) fn of(line: &'a [u8]) -> Numbers<'a> {
+        Numbers(line)
     }
-    let letter = line[0];
-    if letter == b'#' {
-        return Line::Nothing;
+
+    // Whether nothing is left.
+    pub(crate) fn are_over(&self) -> bool {
+        self.0.is_empty()
     }
-    if LONGEST_READ < line.len() {
-        return Line::Unclear;
+
+    // The next number, which one or more spaces stand before, where its type has it.
+    pub(crate) fn next<T: TryFrom<u64>>(&mut self) -> Option<T>
+    where
+        T::Error: Drop,
+    {
+        let [b' ', ..] = self.0 else {
+            return None;
+        };
+        let start = self.0.iter().position(|byte| *byte != b' ')?;
+        let (value, rest) = number(&self.0[start..])?;
+        self.0 = rest;
+        T::try_from(value).ok()
     }
-    let mut at: usize = 1;
-    let mut count: usize = 0;
-    while at < line.len() {
-        let start = after_spaces(line, at);
-        let n = number(line, start);
-        if start == at || n.next == start {
-            return Line::Unclear;
-        }
-        if count == numbers.len() {
-            return Line::Unclear;
-        }
-        numbers[count] = n.value;
-        count += 1;
-        at = n.next;
-    }
-    Line::Call { letter, count }
 }

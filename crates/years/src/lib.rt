@@ -24,8 +24,7 @@ fn in_bills(data: Data) -> Cents
     ensures { result ≡ in_bills «data» }
 {
     let particulars = data.particulars();
-    let kind = particulars.kind;
-    particulars.standing_if(kind.counts_with_bills())
+    particulars.standing_if(particulars.kind.counts_with_bills())
 }
 
 // What an entry counts among payments.
@@ -34,8 +33,7 @@ fn in_payments(data: Data) -> Cents
     ensures { result ≡ in_payments «data» }
 {
     let particulars = data.particulars();
-    let kind = particulars.kind;
-    particulars.standing_if(kind.is(Kind::Payment))
+    particulars.standing_if(particulars.kind == Kind::Payment)
 }
 
 impl Year {
@@ -68,15 +66,13 @@ impl Year {
     pub fn restated(self, before: Data, after: Data) -> Year
         ensures { result ≡ restated_in self before after }
     {
-        let paid_out = self.paid_out;
         Year {
             bills: self.bills.plus(in_bills(after)).minus(in_bills(before)),
             payments: self
                 .payments
                 .plus(in_payments(after))
                 .minus(in_payments(before)),
-            paid_out,
-            entries: self.entries,
+            ..self
         }
     }
 }

@@ -1,9 +1,5 @@
-use Rattle.std.proofs.Common.{◌-◌, length}
 use Rattle.carry.proofs.Carry.{Turn}
 use Rattle.carry.proofs.carry_over.Given as goal
 
 abbrev pub invariant-loop-i : goal.invariant-loop-i
 invariant-loop-i l = Turn l.fn.book l.entries l.fn.results l.i l.book l.results
-
-abbrev pub decreases-loop-i : goal.decreases-loop-i
-decreases-loop-i l = length l.entries - l.i

@@ -4,7 +4,7 @@ use borrow.Author.Tests.{le-ltb}
 use Rattle.saves.specs.Saves.{bytes_of}
 use Rattle.codec.specs.Records.{record_bytes}
 use Rattle.image_carry.specs.Carries.{next_of}
-use Rattle.image_carry.proofs.Carries.{entries_posted, image_most}
+use Rattle.image_carry.proofs.Carries.{image_most}
 use Rattle.image_carry.proofs.too_short.Goals as goal
 
 pub returns-then-most-length : goal.returns-then-most-length
@@ -15,6 +15,4 @@ returns-then-most-length c =
 pub returns : goal.returns
 returns c =
     let a = c.args in
-    let posted = c.replay-replayed in
-    ap (λ n. ltb a.length (record_bytes * (n + 1))) c.entry_count-entry_count.ensures.0 ∙
-    ap (λ b. ltb a.length (bytes_of b)) (entries_posted a.book a.entries.now _ _ posted.result posted.ensures).0
+    ap (λ n. ltb a.length (record_bytes * (n + 1))) (c.from.ensures ∙ c.entry_count.ensures.0) ∙ ap (λ b. ltb a.length (bytes_of b)) c.post_all.ensures.book

@@ -1,84 +1,34 @@
-use Rattle.std.proofs.Common.{◌≡◌, length, arith, rules, sym, ap, ◌∙◌}
-use Rattle.book.proofs.Chain.{slot_inside, link_inside}
-use Rattle.pages.specs.Rows.{entry_row}
-use Rattle.pages.specs.Pages.{entry_line_of}
-use Rattle.pages.proofs.Pages.{turn_blank, turn_entry, passed, page_refused, begun, page_done}
+use Rattle.std.proofs.Common.{length, length-take-le, arith, sym, ap, ◌∙◌}
+use Rattle.std.proofs.lemmas.Result.{err_from_is_err_and}
+use Rattle.queries.specs.Chain.{walk_at}
+use Rattle.queries.specs.Statements.{statement_of}
+use Rattle.pages.specs.Rows.{page_bytes}
+use Rattle.pages.specs.Pages.{entry_lines_of}
+use Rattle.pages.proofs.RowsLaws.{page_form}
+use Rattle.pages.proofs.Pages.{has_room, page_refused, page_done}
 use Rattle.pages.proofs.page.Goals as goal
 
-pub returns-in-Refused : goal.returns-in-Refused
-returns-in-Refused c = page_refused c.args.book c.args.account c.args.buf.now _ (sym c.in-Refused.ensures)
+pub returns-in_err-check_page : goal.returns-in_err-check_page
+returns-in_err-check_page c =
+    let left = err_from_is_err_and c.from_residual.result c.from_residual.ensures.1 in
+    rw (left.1, left.2) (page_refused c.args.book.now c.args.account c.args.buf.now _ (sym c.check_page.ensures ∙ c.in_err-check_page.was))
 
-pub put_head-at-requires : goal.put_head-at-requires
-put_head-at-requires c = passed c.args.account (length c.args.buf.now) (sym c.in_default.ensures)
+pub slice_bounds-copy_from_slice-end-2 : goal.slice_bounds-copy_from_slice-end-2
+slice_bounds-copy_from_slice-end-2 c = sym (length-take-le page_bytes c.args.buf.now (has_room c.args.account _ (sym c.in_ok-check_page.was ∙ c.check_page.ensures)))
 
-pub offset_bounds-book-a : goal.offset_bounds-book-a
-offset_bounds-book-a c = omega (arith, slot_inside c.args.account)
-
-pub bounds-book-a : goal.bounds-book-a
-bounds-book-a c = omega (arith, slot_inside c.args.account)
-
-pub loop-left-init : goal.loop-left-init
-loop-left-init c =
-    let p = passed c.args.account (length c.args.buf.now) (sym c.in_default.ensures) in
-    let reply = c.reply-figures in
-    record {
-      room = p.1;
-      begun =
-          rw c.slot-a.ensures
-          (begun c.args.book c.args.account reply.result c.args.buf.now c.put_head-at.new.buf c.put_head-at.result p.0
-          (record {
-            arrears = omega (arith, reply);
-            credit = omega (arith, reply);
-            deposit = omega (arith, reply);
-            held = omega (arith, reply);
-          })
-          p.1 (search rules) (reply.ensures ∙ c.statement.ensures) c.put_head-at.ensures);
-    }
-
-pub loop-left-preserved-then-ends : goal.loop-left-preserved-then-ends
-loop-left-preserved-then-ends c =
-    let l = c.loop-left in
-    record {
-      room = l.invariant.room;
-      begun =
-          turn_blank c.blank_row-row.result _ l.buf c.put-at.new.buf _ l.at c.put-at.result l.link l.left c.blank_row-row.ensures (search rules)
-          l.invariant.room c.loop-left-test.true (sym c.if-ends.ensures) l.invariant.begun c.put-at.ensures;
-    }
-
-pub overflow_sub-i : goal.overflow_sub-i
-overflow_sub-i c = omega (arith, link_inside c.loop-left.link (sym c.if-ends.ensures))
-
-pub bounds-book-i : goal.bounds-book-i
-bounds-book-i c = omega (arith, link_inside c.loop-left.link (sym c.if-ends.ensures))
-
--- an entry's number has at most four digits
-pub entry_row-row-requires : goal.entry_row-row-requires
-unfolding entry_line_of
-entry_row-row-requires c = let h = link_inside c.loop-left.link (sym c.if-ends.ensures) in rw c.entry_line.ensures (omega arith)
-
-pub loop-left-preserved : goal.loop-left-preserved
-unfolding entry_line_of
-loop-left-preserved c =
-    let l = c.loop-left in
-    let line = c.entry_line in
-    let h = link_inside l.link (sym c.if-ends.ensures) in
-    record {
-      room = l.invariant.room;
-      begun =
-          turn_entry c.entry_row-row.result _ l.buf c.put-at-else-ends.new.buf _ l.at c.put-at-else-ends.result l.link l.left
-          (c.entry_row-row.ensures ∙ ap entry_row line.ensures)
-          (rw (← line.ensures) (record {
-            number = rw line.ensures (omega arith);
-            day = omega (arith, line);
-            kind = omega (arith, line);
-            amount = omega (arith, line);
-          }))
-          (search rules) l.invariant.room c.loop-left-test.true (sym c.if-ends.ensures) l.invariant.begun c.put-at-else-ends.ensures;
-    }
+pub copy_from_slice-requires : goal.copy_from_slice-requires
+copy_from_slice-requires c =
+    let a = c.args in
+    let rows = page_form.lines a.account (statement_of a.book.now a.account 0) (entry_lines_of (walk_at a.book.now a.account)) in
+    omega (
+      arith,
+      length-take-le page_bytes c.args.buf.now (has_room c.args.account _ (sym c.in_ok-check_page.was ∙ c.check_page.ensures)),
+      c.as_flattened.ensures.len,
+      ap length c.page_rows.ensures,
+      rows,
+    )
 
 pub returns : goal.returns
 returns c =
-    let l = c.loop-left in
-    let none : l.left ≡ 0 = omega arith in
-    page_done c.args.book c.args.account c.blank_row-last.result c.args.buf.now l.buf c.put.new.buf l.at c.put.result l.link
-    (sym c.in_default.ensures) c.blank_row-last.ensures (rw none at l.invariant.begun) c.put.ensures
+    page_done c.args.book.now c.args.account c.copy_from_slice.new.self c.args.buf.now (sym c.in_ok-check_page.was ∙ c.check_page.ensures)
+    (c.copy_from_slice.ensures.after ∙ c.as_flattened.ensures.value ∙ (rw c.page_rows.ensures))

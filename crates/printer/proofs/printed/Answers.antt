@@ -1,13 +1,20 @@
-use Rattle.std.proofs.Common.{arith}
-use Rattle.buffers.proofs.Buffers.{at_start}
+use Rattle.std.proofs.Common.{arith, sym, ◌∙◌}
 use Rattle.printer.proofs.PrintedLaws.{printed_book, printed_refused}
 use Rattle.printer.proofs.printed.Goals as goal
 
-pub returns-in-Accepted : goal.returns-in-Accepted
-returns-in-Accepted c = rw (printed_book c.args.loaded c.in-Accepted.is) c.print_book.ensures
+pub returns-in-Ok : goal.returns-in-Ok
+returns-in-Ok c = c.book_lines.ensures ∙ sym (printed_book c.args.loaded _ c.in-Ok.is)
 
-pub returns-in-Refused : goal.returns-in-Refused
-returns-in-Refused c =
-    let w = c.refused_line in
-    rw (printed_refused c.args.loaded _ _ c.in-Refused.is, ← c.number.ensures)
-    (at_start _ c.args.text.now w.new.buf w.result (omega (arith, w.ensures.record_len_bound)) w.ensures.result_after)
+pub returns-in-Err : goal.returns-in-Err
+returns-in-Err c =
+    let pushed = c.push.ensures.room (rw c.new-text.ensures (omega (arith, c.as_slice.ensures.room))) in
+    rw (
+      printed_refused c.args.loaded _ c.in-Err.is,
+      pushed,
+      c.new-text.ensures,
+      c.as_slice.ensures.bytes,
+      c.refused_line.ensures.text,
+      c.from.ensures,
+      c.from-in-Err.ensures,
+      c.from-number.ensures,
+    )

@@ -1,15 +1,13 @@
-use Rattle.std.proofs.Common.{arith, rules, ◌∙◌, ◌≡◌, []}
-use Rattle.decimal.specs.Decimal.{line_columns, digits, dollars}
-use Rattle.pages.proofs.RowsLaws.{entry_room, no_fields, more_fields, fields_row, entry_row_lem}
+use Rattle.std.proofs.Common.{arith, length-append, ◌∙◌, append_assoc}
+use Rattle.decimal.proofs.Decimal.{last_right}
+use Rattle.pages.specs.Rows.{entry_row}
+use Rattle.pages.proofs.RowsLaws.{entry_room}
 use Rattle.pages.proofs.rows.entry_row.Goals as goal
 
 pub returns : goal.returns
+unfolding entry_row
 returns c =
     let l = c.args.line in
-    let p₁ = c.put_columns-at in
-    let p₂ = c.put_columns-at-2 in
-    let p₃ = c.put_columns-at-3 in
-    let p₄ = c.put_columns in
     let room =
     entry_room l (record {
       number = omega arith;
@@ -17,17 +15,37 @@ returns c =
       kind = omega (arith, c.well_formed);
       amount = omega (arith, c.well_formed);
     }) in
-    let k₁ =
-    more_fields 4 (digits l.number) [] c.blank_row-row.result p₁.new.line c.number.result 0 p₁.result c.number.ensures room.number (omega arith)
-    (omega arith) (search rules) (no_fields c.blank_row-row.result c.blank_row-row.ensures) p₁.ensures in
-    let k₂ =
-    more_fields 6 (digits l.day) _ p₁.new.line p₂.new.line c.number-2.result p₁.result p₂.result c.number-2.ensures room.day (omega arith)
-    (omega (arith, k₁.0)) (search rules) k₁.1 p₂.ensures in
-    let k₃ =
-    more_fields 3 (digits l.kind) _ p₂.new.line p₃.new.line c.number-3.result p₂.result p₃.result c.number-3.ensures room.kind (omega arith)
-    (omega (arith, k₁.0, k₂.0)) (search rules) k₂.1 p₃.ensures in
-    let k₄ =
-    more_fields 67 (dollars l.amount) _ p₃.new.line p₄.new.line c.amount.result p₃.result p₄.result c.amount.ensures room.amount (omega arith)
-    (omega (arith, k₁.0, k₂.0, k₃.0)) (search rules) k₃.1 p₄.ensures in
-    let end : p₄.result ≡ line_columns = omega (arith, k₁.0, k₂.0, k₃.0, k₄.0) in
-    fields_row _ p₄.new.line _ k₄.1 ∙ (rw end (entry_row_lem l))
+    let number = c.last.ensures.columns ∙ last_right 4 _ (rw (c.number.ensures.text, c.from.ensures) room.number) (omega arith) in
+    let day = c.last-2.ensures.columns ∙ last_right 6 _ (rw (c.number-2.ensures.text, c.from-2.ensures) room.day) (omega arith) in
+    let kind = c.last-3.ensures.columns ∙ last_right 3 _ (rw (c.number-3.ensures.text, c.from-3.ensures) room.kind) (omega arith) in
+    let amount = c.last-4.ensures.columns ∙ last_right 67 _ (rw c.amount.ensures.text room.amount) (omega arith) in
+    let wide = c.last.ensures.wide (omega arith) in
+    let wide-2 = c.last-2.ensures.wide (omega arith) in
+    let wide-3 = c.last-3.ensures.wide (omega arith) in
+    let wide-4 = c.last-4.ensures.wide (omega arith) in
+    let one = c.push.ensures.room (rw c.new-row.ensures (omega (arith, wide))) in
+    let two = c.push-2.ensures.room (rw (one, c.new-row.ensures) (omega (arith, wide, wide-2))) in
+    let three = c.push-3.ensures.room (rw (two, one, c.new-row.ensures) (simp length-append (omega (arith, wide, wide-2, wide-3)))) in
+    let four = c.push-4.ensures.room (rw (three, two, one, c.new-row.ensures) (simp length-append (omega (arith, wide, wide-2, wide-3, wide-4)))) in
+    let five = c.push-5.ensures.room (rw (four, three, two, one, c.new-row.ensures) (simp length-append (omega (arith, wide, wide-2, wide-3, wide-4)))) in
+    rw (
+      c.whole.ensures,
+      five,
+      four,
+      three,
+      two,
+      one,
+      c.new-row.ensures,
+      number,
+      c.number.ensures.text,
+      c.from.ensures,
+      day,
+      c.number-2.ensures.text,
+      c.from-2.ensures,
+      kind,
+      c.number-3.ensures.text,
+      c.from-3.ensures,
+      amount,
+      c.amount.ensures.text,
+    )
+    (simp append_assoc)

@@ -1,11 +1,11 @@
-use Rattle.std.proofs.Common.{arith, rules, ◌∙◌}
-use Rattle.decimal.specs.Decimal.{line_columns, dollars}
-use Rattle.decimal.proofs.Decimal.{at_most_twenty_one}
-use Rattle.pages.proofs.RowsLaws.{one_field, figure_row_lem}
+use Rattle.std.proofs.Common.{arith}
+use Rattle.pages.specs.Rows.{figure_row}
 use Rattle.pages.proofs.rows.figure_row.Goals as goal
 
 pub returns : goal.returns
+unfolding figure_row
 returns c =
-    let a = c.args.cents in
-    one_field line_columns (dollars a) c.blank_row-row.result c.put_columns.new.line c.amount.result c.put_columns.result c.blank_row-row.ensures
-    c.amount.ensures (omega (arith, at_most_twenty_one a (omega arith))) (omega arith) (search rules) c.put_columns.ensures ∙ figure_row_lem a
+    let wide = c.last.ensures.wide (omega arith) in
+    let first = c.push.ensures.room (rw c.new-row.ensures (omega (arith, wide))) in
+    let second = c.push-2.ensures.room (rw (first, c.new-row.ensures) (omega (arith, wide))) in
+    rw (c.whole.ensures, second, first, c.new-row.ensures, c.last.ensures.columns, c.amount.ensures.text)

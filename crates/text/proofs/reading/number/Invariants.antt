@@ -1,12 +1,9 @@
-use Rattle.std.proofs.Common.{◌≡◌, length, drop, ◌-◌, ◌≤◌}
-use Rattle.text.specs.Reading.{number_in}
+use Rattle.std.proofs.Common.{◌≡◌, length}
+use Rattle.text.specs.Reading.{number_from}
 use Rattle.text.proofs.reading.number.Given as goal
 
-abbrev pub invariant-loop-at : goal.invariant-loop-at
-invariant-loop-at l = record {
-  at_from : l.from ≤ l.at;
-  same : number_in l.from (drop l.at l.line) l.value l.at ≡ number_in l.from (drop l.from l.line) 0 l.from;
-}
+abbrev pub invariant-loop-rest : goal.invariant-loop-rest
+invariant-loop-rest l = number_from l.value l.rest ≡ number_from 0 l.text
 
-abbrev pub decreases-loop-at : goal.decreases-loop-at
-decreases-loop-at l = length l.line - l.at
+abbrev pub decreases-loop-rest : goal.decreases-loop-rest
+decreases-loop-rest l = length l.rest
