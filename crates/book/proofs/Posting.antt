@@ -110,14 +110,14 @@ pub enter_accepted : (w : Arrival) (b : Book) (r : Raw) (x : Change) → decisio
 unfolding enter_of decided_book answer_of
 enter_accepted w b r x e = simp e
 
--- an entry leaves the run and the noted arrears as they are
-pub enter_run : (w : Arrival) (b : Book) (r : Raw) → ((enter_of w b r).book.run ≡ b.run) × ((enter_of w b r).book.noted ≡ b.noted)
+-- an entry leaves the run as it is
+pub enter_run : (w : Arrival) (b : Book) (r : Raw) → (enter_of w b r).book.run ≡ b.run
 unfolding enter_of decided_book stored_of
 enter_run w b r = by (decision_of w b r)
   where
-    by : (o : Decision) → ((decided_book b r o).run ≡ b.run) × ((decided_book b r o).noted ≡ b.noted)
-    by (Err n) = (refl, refl)
-    by (Ok c) = (refl, refl)
+    by : (o : Decision) → (decided_book b r o).run ≡ b.run
+    by (Err n) = refl
+    by (Ok c) = refl
 
 -- LISTS OF POSTINGS
 
@@ -135,10 +135,7 @@ unfolding posts_of
 posts_count b [] = omega arith
 posts_count b (r ∷ rs) = omega (arith, post_count b r, posts_count (post_of b r).book rs)
 
-pub posts_run : (b : Book) (rs : List Raw) → ((posts_of b rs).run ≡ b.run) × ((posts_of b rs).noted ≡ b.noted)
+pub posts_run : (b : Book) (rs : List Raw) → (posts_of b rs).run ≡ b.run
 unfolding posts_of post_of
-posts_run b [] = (refl, refl)
-posts_run b (r ∷ rs) =
-    let first = enter_run (arrival_of b.run) b r in
-    let rest = posts_run (post_of b r).book rs in
-    (rest.0 ∙ first.0, rest.1 ∙ first.1)
+posts_run b [] = refl
+posts_run b (r ∷ rs) = posts_run (post_of b r).book rs ∙ enter_run (arrival_of b.run) b r

@@ -1,11 +1,8 @@
 -- The fresh book.
-use Rattle.std.specs.Prelude.{ℕ, replicate, List}
-use Rattle.measures.specs.Cents.{cents}
+use Rattle.std.specs.Prelude.{ℕ, replicate, None}
 use Rattle.entries.specs.Data.{no_entry}
 use Rattle.rules.specs.Accounts.{no_account}
-use Rattle.book.specs.Runs.{no_run}
 use Rattle.book.specs.declared.Book.{Book}
-use Rattle.measures.specs.declared.Cents.{Cents}
 
 -- 128 accounts and 1,024 entries are facts of every book
 abbrev pub accounts_most : ℕ
@@ -13,10 +10,6 @@ accounts_most = 128
 
 abbrev pub entries_most : ℕ
 entries_most = 1024
-
--- no account's arrears are noted
-abbrev pub none_noted : List Cents
-none_noted = replicate accounts_most (cents 0)
 
 -- no entries; every account's arrears, credit and deposit are zero; both nodes' last serial is 0; no run is open
 unfoldable pub fresh_book : Book
@@ -26,6 +19,5 @@ fresh_book =
       entries = replicate entries_most no_entry;
       count = 0;
       last = record { node_1 = 0; node_2 = 0 };
-      run = no_run;
-      noted = none_noted;
+      run = None;
     }

@@ -64,7 +64,6 @@ stored_of b r c =
       count = b.count + 1;
       last = after_of b.last r;
       run = b.run;
-      noted = b.noted;
     }
 
 -- a refused entry leaves the book as it was

@@ -10,14 +10,14 @@ ghost use Rattle.entries.specs.declared.refusals.Refusal.TheVariants as no;
 ghost use Rattle.entries.specs.Data.{carries, points_at};
 ghost use Rattle.rules.specs.Answers.{posting_reply_of};
 ghost use Rattle.book.specs.Fresh.{fresh_book, accounts_most, entries_most};
-ghost use Rattle.book.specs.Runs.{no_run, is_open, arrival_of};
+ghost use Rattle.book.specs.Runs.{arrival_of};
 ghost use Rattle.book.specs.Serials.{last_of, after_of};
 ghost use Rattle.book.specs.Chain.{slot_of, ends_of, links_of, walk_of, found_by, sought_in, paid_over};
 ghost use Rattle.book.specs.Refusals.{late_rows, check_entry_of};
 ghost use Rattle.book.specs.Posting.{account_at, decision_of, stored_of, posted_reply, enter_of, post_of};
 
 use changes::{Change, Decision, Link, naming_decision, own_decision};
-use entries::{Arrival, Entry, Kind, Name, Raw, Refusal, refuse_if, within};
+use entries::{Arrival, Entry, Incoming, Kind, Name, Raw, Refusal, refuse_if};
 use measures::{Cents, Day};
 use rules::{Accepted, Account, PostingAnswer, paid_within};
 
@@ -28,15 +28,17 @@ pub struct Serials {
     pub node_2: u32,
 }
 
-// The late-charge run that is open; all zero where none is. `next` alone says whether one is, so an Option would say it twice.
+// An open late-charge run.
 #[derive(Clone, Copy)]
 pub struct Run {
     pub node: u8,
     pub day: u16,
     // In hundredths of a percent.
     pub rate: u16,
-    // The account that is charged next, 0 where no run is open.
+    // The account that is charged next.
     pub next: u16,
+    // Every account's arrears at the run's opening.
+    pub noted: [Cents; Book::ACCOUNTS],
 }
 
 #[derive(Clone, Copy)]
@@ -44,9 +46,7 @@ pub struct Book {
     pub accounts: [Account; Book::ACCOUNTS],
     // Between the arrays: the compiler then fills those of a fresh book with fewer copies.
     pub last: Serials,
-    pub run: Run,
-    // Every account's arrears at the run's opening; all zero where no run is open.
-    pub noted: [Cents; Book::ACCOUNTS],
+    pub run: Option<Run>,
     pub entries: [Entry; Book::ENTRIES],
     // How many entries there are: they stand at the places before this one. Document 01 has the book's entry array.
     pub count: u16,
@@ -105,37 +105,6 @@ impl Serials {
     }
 }
 
-impl Run {
-    pub fn none() -> Run
-        ensures { result ≡ no_run }
-    {
-        Run {
-            node: 0,
-            day: 0,
-            rate: 0,
-            next: 0,
-        }
-    }
-
-    pub fn is_open(self) -> bool
-        ensures { result ≡ is_open self }
-    {
-        self.next != 0
-    }
-
-    // How a posted entry comes in.
-    #[tactic(auto, unfolding(crate::specs::Runs::arrival_of))]
-    pub fn arrival(self) -> Arrival
-        ensures { result ≡ arrival_of self }
-    {
-        if self.is_open() {
-            Arrival::PostedInRun
-        } else {
-            Arrival::Posted
-        }
-    }
-}
-
 // The place of an account, and 0 where there is no such account.
 #[tactic(auto, unfolding(crate::specs::Chain::slot_of))]
 pub fn slot(account: u16) -> usize
@@ -177,43 +146,20 @@ impl Iterator for Chain<'_> {
 }
 
 // 2: the node is not 1 or 2.
+#[tactic(auto, unfolding(entries::specs::Ranges::between))]
 pub fn check_node(node: u8) -> Result<(), Refusal>
     ensures { result ≡ refuse_if (not (between node 1 2)) no.UnknownNode }
 {
-    refuse_if(!within(u32::from(node), 1, 2), Refusal::UnknownNode)
+    refuse_if(!(1..=2).contains(&node), Refusal::UnknownNode)
 }
 
 // 3: the account is none of the book's.
+#[tactic(auto, unfolding(entries::specs::Ranges::between))]
 pub fn check_account(account: u16) -> Result<(), Refusal>
     ensures { result ≡ refuse_if (not (between account 1 accounts_most)) no.UnknownAccount }
 {
-    let known = within(u32::from(account), 1, Book::ACCOUNTS as u32);
+    let known = (1..=Book::ACCOUNTS).contains(&usize::from(account));
     refuse_if(!known, Refusal::UnknownAccount)
-}
-
-// The rules after 5: 30, 6, 27 and 7.
-#[tactic(auto, unfolding(entries::specs::Refusals::refuse_if))]
-fn check_late(raw: Raw, kind: Kind, arrival: Arrival, count: u16, last: u32) -> Result<(), Refusal>
-    ensures { result ≡ check_rows (late_rows raw kind arrival count last) }
-{
-    let full = Book::ENTRIES <= usize::from(count);
-    refuse_if(arrival.no_day(kind, raw.b), Refusal::NoDaysServed)?;
-    refuse_if(raw.serial <= last, Refusal::SerialNotNew)?;
-    refuse_if(arrival.waits(kind), Refusal::CorrectionInRun)?;
-    refuse_if(full, Refusal::BookFull)
-}
-
-// 1 to 7, 30 after 5 and 27 before 7: the refusals that the entry, how it comes in, its node's last serial and the number of entries decide.
-#[tactic(auto, unfolding(crate::specs::Refusals::check_entry_of, entries::specs::Refusals::refuse_if))]
-fn check_entry(raw: Raw, kind: Kind, arrival: Arrival, count: u16, last: u32) -> Result<(), Refusal>
-    ensures { result ≡ check_entry_of raw kind arrival count last }
-{
-    refuse_if(arrival.unknown(kind), Refusal::UnknownKind)?;
-    check_node(raw.node)?;
-    check_account(raw.account)?;
-    refuse_if(Day::LAST < raw.day, Refusal::UnknownDay)?;
-    refuse_if(!raw.in_range(kind), Refusal::FieldOutOfRange)?;
-    check_late(raw, kind, arrival, count, last)
 }
 
 impl Book {
@@ -228,7 +174,6 @@ impl Book {
     {
         let account = Account::fresh();
         let entry = Entry::unused();
-        let nothing = Cents(0);
         Book {
             accounts: [account; Book::ACCOUNTS],
             entries: [entry; Book::ENTRIES],
@@ -237,8 +182,7 @@ impl Book {
                 node_1: 0,
                 node_2: 0,
             },
-            run: Run::none(),
-            noted: [nothing; Book::ACCOUNTS],
+            run: None,
         }
     }
 
@@ -290,26 +234,54 @@ impl Book {
         }
     }
 
+    // The rules after 5: 30, 6, 27 and 7.
+    #[tactic(auto, unfolding(entries::specs::Refusals::refuse_if))]
+    fn check_late(&self, incoming: Incoming, arrival: Arrival) -> Result<(), Refusal>
+        ensures { result ≡ check_rows (late_rows incoming.raw incoming.kind arrival self.now.count (last_of self.now.last incoming.raw.node)) }
+    {
+        let Incoming { raw, kind } = incoming;
+        let full = Book::ENTRIES <= usize::from(self.count);
+        refuse_if(arrival.no_day(kind, raw.b), Refusal::NoDaysServed)?;
+        refuse_if(raw.serial <= self.last.of(raw.node), Refusal::SerialNotNew)?;
+        refuse_if(arrival.waits(kind), Refusal::CorrectionInRun)?;
+        refuse_if(full, Refusal::BookFull)
+    }
+
+    // 1 to 7, 30 after 5 and 27 before 7: the refusals that the entry, how it comes in, its node's last serial and the number of entries
+    // decide.
+    #[tactic(auto, unfolding(crate::specs::Refusals::check_entry_of, entries::specs::Refusals::refuse_if))]
+    fn check_entry(&self, incoming: Incoming, arrival: Arrival) -> Result<(), Refusal>
+        ensures { result ≡ check_entry_of incoming.raw incoming.kind arrival self.now.count (last_of self.now.last incoming.raw.node) }
+    {
+        let Incoming { raw, kind } = incoming;
+        refuse_if(arrival.unknown(kind), Refusal::UnknownKind)?;
+        check_node(raw.node)?;
+        check_account(raw.account)?;
+        refuse_if(Day::LAST < raw.day, Refusal::UnknownDay)?;
+        refuse_if(!incoming.in_range(), Refusal::FieldOutOfRange)?;
+        self.check_late(incoming, arrival)
+    }
+
     // The refusal of an entry that comes in, or what it does.
     #[tactic(auto, unfolding(crate::specs::Posting::decision_of, crate::specs::Posting::lookup_of, crate::specs::Posting::paid_of, crate::specs::Chain::start_of, crate::specs::Refusals::decision_by, crate::specs::Refusals::searched_of, entries::specs::Refusals::decided_of))]
     fn decision(&self, raw: Raw, arrival: Arrival) -> Decision
         ensures { result ≡ decision_of arrival self.now raw }
     {
-        let kind = Kind::from(raw.kind);
+        let incoming = Incoming::from(raw);
         let account = self.account(raw.account);
-        check_entry(raw, kind, arrival, self.count, self.last.of(raw.node))?;
-        if !kind.names() {
-            return own_decision(raw, kind, account);
+        self.check_entry(incoming, arrival)?;
+        if !incoming.kind.names() {
+            return own_decision(incoming, account);
         }
         let Found::At(link) = self.lookup(raw, account.newest) else {
             return Err(Refusal::NotOnChain);
         };
-        let paid = if kind == Kind::Reduction {
+        let paid = if incoming.kind == Kind::Reduction {
             self.paid(account.newest, raw.day)
         } else {
             Cents(0)
         };
-        naming_decision(raw, kind, account, paid, link)
+        naming_decision(incoming, account, paid, link)
     }
 
     // Stores an accepted entry.
@@ -342,12 +314,23 @@ impl Book {
         })
     }
 
+    // How a posted entry comes in.
+    #[tactic(auto, unfolding(crate::specs::Runs::arrival_of))]
+    pub fn arrival(&self) -> Arrival
+        ensures { result ≡ arrival_of self.now.run }
+    {
+        match &self.run {
+            Some(_) => Arrival::PostedInRun,
+            None => Arrival::Posted,
+        }
+    }
+
     // Posts an entry in place, during a run where one is open.
     #[tactic(auto, unfolding(crate::specs::Posting::post_of))]
     pub fn offer(&mut self, raw: Raw) -> PostingAnswer
         ensures { (record { book = self.new; reply = posting_reply_of result }) ≡ post_of self.old raw }
     {
-        let arrival = self.run.arrival();
+        let arrival = self.arrival();
         self.admit(raw, arrival)
     }
 

@@ -5,7 +5,7 @@ ghost use Rattle.std.specs.Prelude.{◌≡◌};
 ghost use Rattle.years.specs.Years.{posted_in, restated_in};
 ghost use Rattle.changes.specs.Changes.{alone_of, naming_of, contribution_of, added_customer_of, bill_of, payment_of, deposit_of, deposit_return_of, expiry_of, correction_of, guarantee_of, reduction_of, retention_of, late_charge_of, own_change_of, naming_change_of, own_decision_of, naming_decision_of, named_data_of};
 
-use entries::{Data, Entry, Kind, Raw, Refusal};
+use entries::{Data, Entry, Incoming, Kind, Raw, Refusal};
 use measures::{Cents, Day, Metres};
 use rules::{
     Account, Amounts, Credited, billed, check_naming, check_own, given_back, interest, refund,
@@ -319,9 +319,10 @@ fn late_charge(raw: Raw, account: Account) -> Change
 
 // What an entry that names nothing does: of kind 1, 3, 4, 5, 9, 12 or else 6.
 #[tactic(auto, unfolding(crate::specs::Changes::own_change_of))]
-fn own_change(raw: Raw, kind: Kind, account: Account) -> Change
-    ensures { result ≡ own_change_of raw kind account }
+fn own_change(incoming: Incoming, account: Account) -> Change
+    ensures { result ≡ own_change_of incoming.raw incoming.kind account }
 {
+    let Incoming { raw, kind } = incoming;
     match kind {
         Kind::Contribution => contribution(raw, account),
         Kind::Bill => bill(raw, account),
@@ -336,9 +337,10 @@ fn own_change(raw: Raw, kind: Kind, account: Account) -> Change
 // What an entry does that names the one of a link: of kind 2, 7, 10, 11 or else 8. `paid` is the sum of the payments in a
 // reduction's window.
 #[tactic(auto, unfolding(crate::specs::Changes::naming_change_of))]
-fn naming_change(raw: Raw, kind: Kind, account: Account, paid: Cents, link: Link) -> Change
-    ensures { result ≡ naming_change_of raw kind account paid link }
+fn naming_change(incoming: Incoming, account: Account, paid: Cents, link: Link) -> Change
+    ensures { result ≡ naming_change_of incoming.raw incoming.kind account paid link }
 {
+    let Incoming { raw, kind } = incoming;
     match kind {
         Kind::AddedCustomer => added_customer(raw, account, link),
         Kind::Expiry => expiry(raw, account, link),
@@ -350,18 +352,18 @@ fn naming_change(raw: Raw, kind: Kind, account: Account, paid: Cents, link: Link
 
 // The refusal of an entry that names nothing, or what it does.
 #[tactic(auto, unfolding(entries::specs::Refusals::decided_of, crate::specs::Changes::own_decision_of))]
-pub fn own_decision(raw: Raw, kind: Kind, account: Account) -> Decision
-    ensures { result ≡ own_decision_of raw kind account }
+pub fn own_decision(incoming: Incoming, account: Account) -> Decision
+    ensures { result ≡ own_decision_of incoming.raw incoming.kind account }
 {
-    check_own(raw, kind, account)?;
-    Ok(own_change(raw, kind, account))
+    check_own(incoming, account)?;
+    Ok(own_change(incoming, account))
 }
 
 // The refusal of an entry that names the one of a link, or what it does.
 #[tactic(auto, unfolding(entries::specs::Refusals::decided_of, crate::specs::Changes::naming_decision_of))]
-pub fn naming_decision(raw: Raw, kind: Kind, account: Account, paid: Cents, link: Link) -> Decision
-    ensures { result ≡ naming_decision_of raw kind account paid link }
+pub fn naming_decision(incoming: Incoming, account: Account, paid: Cents, link: Link) -> Decision
+    ensures { result ≡ naming_decision_of incoming.raw incoming.kind account paid link }
 {
-    check_naming(raw, kind, link.entry)?;
-    Ok(naming_change(raw, kind, account, paid, link))
+    check_naming(incoming, link.entry)?;
+    Ok(naming_change(incoming, account, paid, link))
 }

@@ -204,7 +204,7 @@ impl<'a, P: Print> Session<'a, P> {
         self.keep(loaded.book);
         let (refusal, record) = match loaded.answer {
             Ok(()) => (0, 0),
-            Err(fault) => (fault.refusal.into(), fault.record),
+            Err(fault) => (fault.refusal.into(), fault.record_number()),
         };
         println!(self.rt; "l {refusal} {record}")
     }

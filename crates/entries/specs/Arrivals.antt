@@ -1,10 +1,16 @@
--- How an entry comes in: posted, posted during a late-charge run, or recorded, as an image's record or by a run's step.
+-- An entry that comes in, and how: posted, posted during a late-charge run, or recorded, as an image's record or by a run's step.
 use Rattle.std.specs.Prelude.{ℕ, Bool, true, false, not, ◌&&◌, ◌||◌, eqb}
-use Rattle.entries.specs.Kinds.{same_of}
+use Rattle.entries.specs.Kinds.{kind_of, same_of}
+use Rattle.entries.specs.declared.raw.Raw.{Raw}
+use Rattle.entries.specs.declared.incoming.Incoming.{Incoming}
 use Rattle.entries.specs.declared.arrivals.Arrival.{Arrival}
 use Rattle.entries.specs.declared.arrivals.Arrival.TheVariants.{Posted, PostedInRun, Recorded}
 use Rattle.entries.specs.declared.kinds.Kind.{Kind}
 use Rattle.entries.specs.declared.kinds.Kind.TheVariants as kind
+
+-- an entry with the kind of its number
+abbrev pub incoming_of : Raw → Incoming
+incoming_of r = record { raw = r; kind = kind_of r.kind }
 
 abbrev pub is_recorded : Arrival → Bool
 is_recorded Posted = false

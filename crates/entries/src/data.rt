@@ -1,6 +1,6 @@
 // An entry as the book keeps it: common fields, and the data of its kind.
 ghost use Rattle.std.specs.Prelude.{◌≡◌, true};
-ghost use Rattle.entries.specs.Data.{no_entry, standing_if, other_particulars, standing_particulars, one_more, particulars_of, refunded_of, expired_of, restated_of, reduced_of, retained_of, with_of, carries};
+ghost use Rattle.entries.specs.Data.{no_entry, standing_if, one_more, particulars_of, refunded_of, expired_of, restated_of, reduced_of, retained_of, with_of, carries};
 
 use crate::kinds::Kind;
 use measures::{Cents, Day, Metres};
@@ -114,28 +114,6 @@ impl Particulars {
         reduced: Day(0),
     };
 
-    // What the rules read of an entry that they read no figure of.
-    fn other(kind: Kind) -> Particulars
-        ensures { result ≡ other_particulars kind }
-    {
-        Particulars {
-            kind,
-            ..Particulars::NONE
-        }
-    }
-
-    // What they read of a bill or a payment, and of a late charge, which stands at its amount.
-    fn standing(kind: Kind, standing: Cents, corrected: bool) -> Particulars
-        ensures { result ≡ standing_particulars kind standing corrected }
-    {
-        Particulars {
-            kind,
-            standing,
-            corrected,
-            ..Particulars::NONE
-        }
-    }
-
     // The standing amount of an entry that counts, and 0 of another.
     #[tactic(auto, unfolding(crate::specs::Data::standing_if))]
     pub fn standing_if(self, counts: bool) -> Cents
@@ -162,9 +140,35 @@ fn restate(standing: &mut Cents, corrected: &mut bool, amount: Cents)
 
 impl Data {
     #[tactic(auto, unfolding(crate::specs::Data::case_of, crate::specs::Data::particulars_of))]
+    fn kind(self) -> Kind
+        ensures { result ≡ (particulars_of self).kind }
+    {
+        match self {
+            Data::Unused => Kind::Unknown,
+            Data::Contribution { .. } => Kind::Contribution,
+            Data::AddedCustomer { .. } => Kind::AddedCustomer,
+            Data::Bill { .. } => Kind::Bill,
+            Data::Payment { .. } => Kind::Payment,
+            Data::Deposit { .. } => Kind::Deposit,
+            Data::DepositReturn => Kind::DepositReturn,
+            Data::Expiry(_) => Kind::Expiry,
+            Data::Correction { .. } => Kind::Correction,
+            Data::Guarantee { .. } => Kind::Guarantee,
+            Data::Reduction(_) => Kind::Reduction,
+            Data::Retention(_) => Kind::Retention,
+            Data::LateCharge(_) => Kind::LateCharge,
+        }
+    }
+
+    // A late charge stands at its amount.
+    #[tactic(auto, unfolding(crate::specs::Data::case_of, crate::specs::Data::particulars_of))]
     pub fn particulars(self) -> Particulars
         ensures { result ≡ particulars_of self }
     {
+        let kind_alone = Particulars {
+            kind: self.kind(),
+            ..Particulars::NONE
+        };
         match self {
             Data::Contribution {
                 amount,
@@ -175,46 +179,44 @@ impl Data {
                 closed,
                 ..
             } => Particulars {
-                kind: Kind::Contribution,
                 amount,
                 built,
                 phases,
                 held,
                 added,
                 closed,
-                ..Particulars::NONE
+                ..kind_alone
             },
             Data::Bill {
                 standing,
                 corrected,
                 ..
-            } => Particulars::standing(Kind::Bill, standing, corrected),
-            Data::Payment {
+            }
+            | Data::Payment {
                 standing,
                 corrected,
                 ..
-            } => Particulars::standing(Kind::Payment, standing, corrected),
+            } => Particulars {
+                standing,
+                corrected,
+                ..kind_alone
+            },
+            Data::LateCharge(standing) => Particulars {
+                standing,
+                ..kind_alone
+            },
             Data::Guarantee {
                 closed,
                 reduced,
                 held,
                 ..
             } => Particulars {
-                kind: Kind::Guarantee,
                 closed,
                 guarantee_held: held,
                 reduced,
-                ..Particulars::NONE
+                ..kind_alone
             },
-            Data::LateCharge(amount) => Particulars::standing(Kind::LateCharge, amount, false),
-            Data::AddedCustomer { .. } => Particulars::other(Kind::AddedCustomer),
-            Data::Deposit { .. } => Particulars::other(Kind::Deposit),
-            Data::DepositReturn => Particulars::other(Kind::DepositReturn),
-            Data::Expiry(_) => Particulars::other(Kind::Expiry),
-            Data::Correction { .. } => Particulars::other(Kind::Correction),
-            Data::Reduction(_) => Particulars::other(Kind::Reduction),
-            Data::Retention(_) => Particulars::other(Kind::Retention),
-            Data::Unused => Particulars::other(Kind::Unknown),
+            _ => kind_alone,
         }
     }
 

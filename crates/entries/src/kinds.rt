@@ -1,7 +1,9 @@
 // The kinds of entries, and the ranges of each kind's fields.
-ghost use Rattle.std.specs.Prelude.{◌≡◌};
+ghost use Rattle.std.specs.Prelude.{◌≡◌, false};
 ghost use Rattle.entries.specs.Kinds.{kind_of, number_of, counts_with_bills, names_guarantee_of, names_of, misnames_of};
-ghost use Rattle.entries.specs.Ranges.{limits_of};
+ghost use Rattle.entries.specs.Ranges.{b_fits, limits_of};
+
+use std::ops::RangeInclusive;
 
 // The documents' kinds 1 to 12 in their order, after a case for every other number, so that each number has a kind: 1 refuses that case.
 #[derive(Clone, Copy, Debug, PartialEq, Eq)]
@@ -21,43 +23,39 @@ pub enum Kind {
     LateCharge = 12,
 }
 
-// The ends of the fields' ranges. Where `named` holds, the named node is 1 or 2 and the named serial 1 or more; else both are 0.
-// Where `phases` holds, b is 1 or 3; else it is at most `b_high`.
+// What b is: 1 or 3 phases, or a number up to another.
 #[derive(Clone, Copy)]
+pub enum BRange {
+    Phases,
+    UpTo(u16),
+}
+
+// The ranges of the amount, of a and of b.
+#[derive(Clone, Drop)]
 pub struct Limits {
-    pub amount_low: u32,
-    pub amount_high: u32,
-    pub named: bool,
-    pub a_low: u16,
-    pub a_high: u16,
-    pub phases: bool,
-    pub b_high: u16,
+    pub amount: RangeInclusive<u32>,
+    pub a: RangeInclusive<u16>,
+    pub b: BRange,
+}
+
+impl BRange {
+    #[tactic(auto, unfolding(crate::specs::Ranges::b_fits))]
+    pub fn contains(self, b: u8) -> bool
+        ensures { result ≡ b_fits b self }
+    {
+        match self {
+            BRange::Phases => b == 1 || b == 3,
+            BRange::UpTo(high) => u16::from(b) <= high,
+        }
+    }
 }
 
 impl Limits {
-    // Of an entry that has none of the fields.
-    const NONE: Limits = Limits {
-        amount_low: 0,
-        amount_high: 0,
-        named: false,
-        a_low: 0,
-        a_high: 0,
-        phases: false,
-        b_high: 0,
-    };
-
-    // Of one with an amount of 1 or more.
-    const AMOUNT: Limits = Limits {
-        amount_low: 1,
-        amount_high: Kind::AMOUNT_MOST,
-        ..Limits::NONE
-    };
-
-    // Of one that names another.
-    const NAMED: Limits = Limits {
-        named: true,
-        ..Limits::NONE
-    };
+    fn row(amount: RangeInclusive<u32>, a: RangeInclusive<u16>, b: BRange) -> Limits
+        ensures { result ≡ record { amount = amount; a = a; b = b } }
+    {
+        Limits { amount, a, b }
+    }
 }
 
 impl From<u8> for Kind {
@@ -134,45 +132,30 @@ impl Kind {
         }
     }
 
-    // The ranges of the fields, where a is the entry's field a.
+    // The ranges of the fields, where a is the entry's field a. None is spent, as one is that has yielded its last value: `contains` reads
+    // both ends.
     #[tactic(auto, unfolding(crate::specs::Ranges::limits_of))]
     pub fn limits(self, a: u16) -> Limits
-        ensures { result ≡ limits_of self a }
+        ensures rows { result ≡ limits_of self a }
+        ensures unspent { (result.amount.exhausted ≡ false) × (result.a.exhausted ≡ false) }
     {
+        let none = BRange::UpTo(0);
         match self {
-            Kind::Contribution => Limits {
-                a_low: 1,
-                a_high: u16::MAX,
-                phases: true,
-                ..Limits::AMOUNT
-            },
-            Kind::AddedCustomer => Limits {
-                a_low: 1,
-                a_high: u16::MAX,
-                phases: true,
-                ..Limits::NAMED
-            },
-            Kind::Bill => Limits {
-                a_low: 1,
-                a_high: Kind::BILL_PERIOD_MOST,
-                b_high: a,
-                ..Limits::AMOUNT
-            },
-            Kind::Payment | Kind::Guarantee => Limits::AMOUNT,
-            Kind::Deposit => Limits {
-                a_high: Kind::RATE_MOST,
-                ..Limits::AMOUNT
-            },
-            Kind::Expiry | Kind::Reduction | Kind::Retention => Limits::NAMED,
-            Kind::Correction => Limits {
-                amount_high: Kind::AMOUNT_MOST,
-                ..Limits::NAMED
-            },
-            Kind::LateCharge => Limits {
-                amount_high: Kind::AMOUNT_MOST,
-                ..Limits::NONE
-            },
-            Kind::DepositReturn | Kind::Unknown => Limits::NONE,
+            Kind::Contribution => Limits::row(1..=Kind::AMOUNT_MOST, 1..=u16::MAX, BRange::Phases),
+            Kind::AddedCustomer => Limits::row(0..=0, 1..=u16::MAX, BRange::Phases),
+            Kind::Bill => Limits::row(
+                1..=Kind::AMOUNT_MOST,
+                1..=Kind::BILL_PERIOD_MOST,
+                BRange::UpTo(a),
+            ),
+            Kind::Deposit => Limits::row(1..=Kind::AMOUNT_MOST, 0..=Kind::RATE_MOST, none),
+            Kind::Payment | Kind::Guarantee => Limits::row(1..=Kind::AMOUNT_MOST, 0..=0, none),
+            Kind::Correction | Kind::LateCharge => Limits::row(0..=Kind::AMOUNT_MOST, 0..=0, none),
+            Kind::DepositReturn
+            | Kind::Expiry
+            | Kind::Reduction
+            | Kind::Retention
+            | Kind::Unknown => Limits::row(0..=0, 0..=0, none),
         }
     }
 }

@@ -3,12 +3,14 @@
 
 mod arrivals;
 mod data;
+mod incoming;
 mod kinds;
 mod raw;
 mod refusals;
 
 pub use arrivals::Arrival;
 pub use data::{Data, Entry, Name, Particulars, one_more};
-pub use kinds::{Kind, Limits};
-pub use raw::{Raw, within};
+pub use incoming::Incoming;
+pub use kinds::{BRange, Kind, Limits};
+pub use raw::Raw;
 pub use refusals::{Refusal, refuse_if};

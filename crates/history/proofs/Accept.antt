@@ -6,15 +6,15 @@ use mathlib.Core.Bool.{Bool, true, false, cond, not, ◌&&◌, ◌||◌, true≢
 use mathlib.Core.List.{List, [], ◌∷◌}
 use lib.ListN.{length}
 use lib.Dec.{eqb, leb, ltb}
-use borrow.Author.Tests.{ltb-false, leb-true, leb-false, eqb-true, not-false}
+use borrow.Author.Tests.{ltb-false, leb-false, not-false}
 use Rattle.entries.specs.Kinds.{kind_of, same_of}
-use Rattle.entries.specs.Ranges.{amount_most, bill_period_most, limits_of, b_fits, in_range_of}
+use Rattle.entries.specs.Ranges.{amount_most, bill_period_most, limits_of, in_range_of}
 use Rattle.entries.specs.declared.arrivals.Arrival.{Arrival}
 use Rattle.entries.specs.declared.arrivals.Arrival.TheVariants.{Posted, PostedInRun, Recorded}
 use Rattle.entries.specs.declared.raw.Raw.{Raw}
 use Rattle.entries.specs.declared.kinds.Kind.{Kind}
 use Rattle.entries.specs.declared.kinds.Kind.TheVariants as kind
-use Rattle.entries.proofs.Ranges.{inside, Ranged, ranged}
+use Rattle.entries.proofs.Ranges.{inside, b_most, b_below, Ranged, ranged}
 use Rattle.entries.proofs.KindsLaws.{every_kind, same_kind, no_kind}
 use Rattle.history.specs.History.{accounts, entries, dated, refund_end, History, last_serial, naming_guarantee, naming, suits, Target, absent, present, find, named, Fate, fate, paid_by, guarantee_open, target_entry, target_fate, Balance, move_of, move_by, balance, Rule, ◌⇒◌, first_broken, unknown_so, no_day_so, refusals, judge_by, judge, last_day}
 use Rattle.history.specs.Laws.{Valid, empty, joins}
@@ -56,22 +56,13 @@ unbroken n (x ∷ xs) m e = by x.broken (λ q. unbroken n xs m.1 q) refl e
     by false ih p q = pick (eqb x.number n) p (ih q)
 
 -- THE RANGES OF FIELDS
-highs : (a : ℕ) (k : Kind) → let l = limits_of k a in (l.amount_high ≤ amount_most) × (l.a_high ≤ 65535)
+highs : (a : ℕ) (k : Kind) → let l = limits_of k a in (l.amount.end ≤ amount_most) × (l.a.end ≤ 65535)
 unfolding limits_of
 highs a = every_kind _ (omega arith)
 
-b_high_lem : (a : ℕ) (k : Kind) → a ≤ (limits_of k a).a_high → (limits_of k a).b_high ≤ bill_period_most
+b_high : (a : ℕ) (k : Kind) → let l = limits_of k a in a ≤ l.a.end → b_most l.b ≤ bill_period_most
 unfolding limits_of
-b_high_lem a = every_kind _ (omega arith)
-
-b_fits_lem : (r : Raw) (phases : Bool) (high : ℕ) → high ≤ bill_period_most → b_fits r phases high ≡ true → r.b ≤ bill_period_most
-unfolding b_fits
-b_fits_lem r true high l e = go (eqb r.b 1) refl e
-  where
-    go : (t : Bool) → eqb r.b 1 ≡ t → (t || eqb r.b 3) ≡ true → r.b ≤ bill_period_most
-    go true p q = omega (arith, eqb-true r.b 1 p)
-    go false p q = omega (arith, eqb-true r.b 3 q)
-b_fits_lem r false high l e = omega (arith, leb-true r.b high e)
+b_high a = every_kind _ (omega arith)
 
 pub record FieldsInRange (r : Raw) (k : Kind) : Type 0 where
   pub amount : r.amount ≤ amount_most
@@ -81,14 +72,13 @@ pub record FieldsInRange (r : Raw) (k : Kind) : Type 0 where
 
 in_range : (r : Raw) (k : Kind) → in_range_of r k ≡ true → FieldsInRange r k
 in_range r k e =
-    let l = limits_of k r.a in
     let s = ranged r k e in
     let h = highs r.a k in
     record {
       amount = omega (arith, s.amount.1, h.0);
       a = omega (arith, s.a.1, h.1);
       by_kind = s;
-      b = b_fits_lem r l.phases l.b_high (b_high_lem r.a k s.a.1) s.b;
+      b = omega (arith, b_below r.b (limits_of k r.a).b s.b, b_high r.a k s.a.1);
     }
 
 -- WHAT AN ACCEPTED ENTRY HAS PASSED

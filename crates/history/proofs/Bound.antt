@@ -119,7 +119,7 @@ module _ (r e : Raw) (paid : ℕ) (f : Fate) (b : Balance) (l : Kind) (n : ℕ) 
   moved_deposit : (k : Kind) → (moved (move_of k l r b e paid f) b).deposit ≤ amount_most
   moved_deposit = every_kind _ (omega arith)
 
-  moved_rate : (k : Kind) → r.a ≤ (limits_of k r.a).a_high → (moved (move_of k l r b e paid f) b).rate ≤ rate_most
+  moved_rate : (k : Kind) → r.a ≤ (limits_of k r.a).a.end → (moved (move_of k l r b e paid f) b).rate ≤ rate_most
   unfolding limits_of
   moved_rate = every_kind _ (omega arith)
 

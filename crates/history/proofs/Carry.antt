@@ -39,12 +39,12 @@ module _ (way : Arrival) {b : Book} {h : History} (w : Kept b h) (so : arrival_o
   posted_same = rw so (agreement.replied way b h w r)
 
   -- it leaves the run as it is, so that the next one comes in likewise
-  pub posted_run : ((post_of b r).book.run ≡ b.run) × ((post_of b r).book.noted ≡ b.noted)
+  pub posted_run : (post_of b r).book.run ≡ b.run
   unfolding post_of
   posted_run = enter_run (arrival_of b.run) b r
 
   so_again : arrival_of (post_of b r).book.run ≡ way
-  so_again = rw posted_run.0 so
+  so_again = rw posted_run so
 
 pub posts_same : (way : Arrival) {b : Book} {h : History} → Kept b h → arrival_of b.run ≡ way → (rs : List Raw) →
     Kept (posts_of b rs) (offers way h rs) × (refusals_of b rs ≡ verdicts way h rs)
@@ -64,8 +64,8 @@ module _ (way : Arrival) {b : Book} {h : History} (w : Kept b h) (so : arrival_o
   carried_kept = either Kept (too_short rs results) (λ e. w) (λ e. (posts_same way w so rs).0)
 
 -- it leaves the run as it is
-pub carried_run : (b : Book) (rs : List Raw) (results : List ℕ) → let next = carry_book_of b rs results in (next.run ≡ b.run) × (next.noted ≡ b.noted)
+pub carried_run : (b : Book) (rs : List Raw) (results : List ℕ) → let next = carry_book_of b rs results in next.run ≡ b.run
 unfolding carry_book_of
 carried_run b rs results =
-    tested (λ t. let next = cond t b (posts_of b rs) in (next.run ≡ b.run) × (next.noted ≡ b.noted)) (too_short rs results) (λ e. (refl, refl))
+    tested (λ t. let next = cond t b (posts_of b rs) in next.run ≡ b.run) (too_short rs results) (λ e. refl)
     (λ e. posts_run b rs)

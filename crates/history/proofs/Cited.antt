@@ -75,7 +75,7 @@ module _ {start : Book} {s : State} {cs : List Call} (claim : Claim start s cs) 
   kept = claim.kept
 
   -- and the history's run
-  running : RunKept b.run b.noted (state_after s cs).run
+  running : RunKept b.run (state_after s cs).run
   running = claim.run
 
   -- the sums, with the book's amounts

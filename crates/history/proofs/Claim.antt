@@ -9,7 +9,7 @@ use Rattle.entries.specs.declared.kinds.Kind.TheVariants as kind
 use Rattle.entries.specs.declared.data.Particulars.{Particulars}
 use Rattle.rules.specs.declared.accounts.Account.{Account}
 use Rattle.book.specs.Fresh.{fresh_book}
-use Rattle.book.specs.Runs.{is_open}
+use Rattle.std.specs.Prelude.{is_some}
 use Rattle.book.specs.declared.Book.{Book}
 use Rattle.saves.specs.Saves.{save_of, saved_in}
 use Rattle.queries.specs.Chain as chains
@@ -39,9 +39,9 @@ unfolding query_of query_in
 query_same w (statement account allowance) = ap stated (statement_same w.history account allowance)
 query_same w (contribution account node serial) = ap given (contribution_same w.history account node serial)
 query_same w (page account buffer) = ap paged (page_same w.history account buffer)
-query_same {b} {s} w (save buffer) = rw (← open_same w.run) (go (is_open b.run) refl)
+query_same {b} {s} w (save buffer) = rw (← open_same w.run) (go (is_some b.run) refl)
   where
-    go : (t : Bool) → is_open b.run ≡ t → saved (save_of b buffer).refusal (save_of b buffer).bytes (saved_in b buffer) ≡ save_in t s.entries buffer
+    go : (t : Bool) → is_some b.run ≡ t → saved (save_of b buffer).refusal (save_of b buffer).bytes (saved_in b buffer) ≡ save_in t s.entries buffer
     go true e = rw ((save_in_run b buffer e).0, (save_in_run b buffer e).1) refl
     go false e = rw (save_same w.history e buffer, saved_same w.history e buffer) refl
 
@@ -67,7 +67,7 @@ calls_same {b} {s} w cs = lists_same call_of call_in (λ b s cs. KeptState b s) 
 
 pub fresh_kept : KeptState fresh_book (state_from [])
 unfolding fresh_book
-fresh_kept = record { history = agreement.fresh; run = over refl refl refl }
+fresh_kept = record { history = agreement.fresh; run = over refl refl }
 
 guarantee_read : (all h : History) (e : Raw) → guarantee_held_of (kept_entry all h e) ≡ held_of kind.Guarantee (kind_of e.kind) e (fate all e)
 unfolding guarantee_held_of entry_of

@@ -59,7 +59,7 @@ abbrev holds : Reading
 holds k e f = billed_amount k e f + held_amount k e f + held_of kind.Guarantee k e f
 
 -- a kind whose amount is 1 or more stands on one of the two sides
-accounted : (e : Raw) (f : Fate) → 1 ≤ e.amount → 1 ≤ f.held → 1 ≤ f.standing → (k : Kind) → 1 ≤ (limits_of k e.a).amount_low →
+accounted : (e : Raw) (f : Fate) → 1 ≤ e.amount → 1 ≤ f.held → 1 ≤ f.standing → (k : Kind) → 1 ≤ (limits_of k e.a).amount.start →
     1 ≤ brings k e f + holds k e f
 unfolding limits_of
 accounted e f m h s = every_kind _ (omega arith)

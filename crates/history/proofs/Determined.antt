@@ -11,8 +11,7 @@ use Rattle.entries.specs.Data.{no_entry}
 use Rattle.entries.specs.declared.data.Entry.{Entry}
 use Rattle.rules.specs.Accounts.{no_account}
 use Rattle.book.specs.declared.Book.{Book}
-use Rattle.book.specs.Fresh.{none_noted}
-use Rattle.book.specs.Runs.{no_run}
+use Rattle.std.specs.Prelude.{None}
 use Rattle.book.specs.Chain.{slot_of}
 use Rattle.runs.specs.Runs.{without_run}
 use Rattle.history.specs.History.{History, accounts}
@@ -34,8 +33,7 @@ whole b =
       entries = b.entries;
       count = b.count;
       last = record { node_1 = b.last.node_1; node_2 = b.last.node_2 };
-      run = no_run;
-      noted = none_noted;
+      run = None;
     }
 
 module _ {b c : Book} {h : History} (v : Agrees b h) (w : Agrees c h) where

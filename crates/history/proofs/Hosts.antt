@@ -12,7 +12,8 @@ use Rattle.entries.specs.declared.arrivals.Arrival.TheVariants.{Posted}
 use Rattle.entries.specs.declared.raw.Raw.{Raw}
 use Rattle.codec.specs.Records.{record_bytes}
 use Rattle.codec.specs.Headers.{header_of}
-use Rattle.book.specs.Runs.{is_open, arrival_of}
+use Rattle.book.specs.Runs.{arrival_of}
+use Rattle.std.specs.Prelude.{Option, is_some}
 use Rattle.book.specs.Posting.{post_of, posts_of}
 use Rattle.book.specs.declared.Book.{Book}
 use Rattle.book.specs.declared.Run.{Run}
@@ -47,19 +48,19 @@ use Rattle.history.proofs.Trips.{length_image, loads, image_loads, image_again, 
 
 -- it has no run: an image holds none
 module _ {b : Book} {h : History} (w : Kept b h) (idle : without_run b ≡ b) where
-  none_open : (run : Run) → run ≡ b.run → is_open run ≡ false
-  none_open run e = rw (e, (idle_run b idle).0) refl
+  none_open : (run : Option Run) → run ≡ b.run → is_some run ≡ false
+  none_open run e = rw (e, idle_run b idle) refl
 
   so : arrival_of b.run ≡ Posted
   unfolding arrival_of
-  so = rw (idle_run b idle).0 refl
+  so = rw (idle_run b idle) refl
 
   post_same : (entry output : List ℕ) → post_into b entry output ≡ post_in h entry output
   unfolding post_into post_in post_refusal
   post_same entry output =
       let r = read_entry entry in
       let next = posted_kept Posted w so r in
-      let shut = none_open (post_of b r).book.run (posted_run Posted w so r).0 in
+      let shut = none_open (post_of b r).book.run (posted_run Posted w so r) in
       rw (posted_same Posted w so r, replied_number Posted h r, save_same next shut output, bytes_same next, saved_same next shut output) refl
 
   carry_same : (entries results output : List ℕ) → carry_into b entries results output ≡ carry_in h entries results output
@@ -67,7 +68,7 @@ module _ {b : Book} {h : History} (w : Kept b h) (idle : without_run b ≡ b) wh
   carry_same entries results output =
       let rs = read_entries entries in
       let next = (posts_same Posted w so rs).0 in
-      let shut = none_open (posts_of b rs).run (posts_run b rs).0 in
+      let shut = none_open (posts_of b rs).run (posts_run b rs) in
       rw (save_same next shut output, bytes_same next, saved_same next shut output, results_same Posted w so rs results) refl
 
   query_same : (q : HostQuery) → host_query_of (accepted_load b) q ≡ host_query_in h q

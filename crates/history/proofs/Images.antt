@@ -6,17 +6,17 @@ use mathlib.Core.List.{List, map, map-append}
 use native.Mathlib.Omega.{arith}
 use lib.ListN.{length, take}
 use lib.Seq.{take-suc}
-use borrow.Author.Tests.{leb-true, eqb-true}
-use Rattle.entries.specs.Kinds.{number_of, kind_of}
-use Rattle.entries.specs.Ranges.{named_fits, b_fits, limits_of}
+use borrow.Author.Tests.{eqb-true}
+use Rattle.entries.specs.Kinds.{number_of, kind_of, names_of}
+use Rattle.entries.specs.Ranges.{named_fits, limits_of}
 use Rattle.entries.specs.Data.{no_entry, entry_of}
 use Rattle.entries.specs.declared.raw.Raw.{Raw}
 use Rattle.entries.specs.declared.kinds.Kind.{Kind}
 use Rattle.entries.specs.declared.kinds.Kind.TheVariants as kind
 use Rattle.entries.specs.declared.data.Entry.{Entry}
-use Rattle.entries.proofs.Ranges.{both_true, Ranged}
+use Rattle.entries.proofs.Ranges.{both_true, b_most, b_below, Ranged}
 use Rattle.entries.proofs.KindsLaws.{number_again}
-use Rattle.book.specs.Runs.{is_open}
+use Rattle.std.specs.Prelude.{is_some}
 use Rattle.book.specs.declared.Book.{Book}
 use Rattle.saves.specs.Saves.{raw_with, raw_of, entry_record, entry_count, bytes_of, image_of, refused_save, accepted_save, save_of, saved_in}
 use Rattle.saves.proofs.Saves.{save_no_run}
@@ -29,16 +29,11 @@ use Rattle.history.proofs.Accept.{accepts, fits}
 
 -- AN ACCEPTED ENTRY IS RECOVERED WHOLE
 
--- what a kind does not list is zero: the named pair, or b within its limit
+-- the named pair of an entry that names none is zero
 unnamed : (r : Raw) (t : Bool) → named_fits r t ≡ true → (cond t 0 r.named_node ≡ 0) × (cond t 0 r.named_serial ≡ 0)
 unfolding named_fits
 unnamed r true e = (refl, refl)
 unnamed r false e = let p = both_true _ _ e in (eqb-true _ 0 p.0, eqb-true _ 0 p.1)
-
-at_most : (r : Raw) (t : Bool) (high : ℕ) → b_fits r t high ≡ true → cond t 0 r.b ≤ high
-unfolding b_fits
-at_most r true high e = omega arith
-at_most r false high e = leb-true r.b high e
 
 same_raw : {r : Raw} {k m s x y n : ℕ} →
     (k ≡ r.kind) × (m ≡ r.amount) × (s ≡ r.named_serial) × (x ≡ r.a) × (y ≡ r.b) × (n ≡ r.named_node) →
@@ -57,7 +52,7 @@ same_raw : {r : Raw} {k m s x y n : ℕ} →
 same_raw e = rw (e.0, e.1, e.2, e.3, e.4, e.5) refl
 
 raw_kept : (r : Raw) (k : Kind) (f : Fate) (settled paid_out next : ℕ) → number_of k ≡ r.kind → Ranged r k →
-    let l = limits_of k r.a in (cond l.named 0 r.named_node ≡ 0) × (cond l.named 0 r.named_serial ≡ 0) → cond l.phases 0 r.b ≤ l.b_high →
+    (cond (names_of k) 0 r.named_node ≡ 0) × (cond (names_of k) 0 r.named_serial ≡ 0) → r.b ≤ b_most (limits_of k r.a).b →
     raw_with (entry_of r next (kept_data k r f settled paid_out)) (kept_data k r f settled paid_out) ≡ r
 unfolding entry_of limits_of
 raw_kept r kind.Unknown f s p next e g n y = same_raw (omega arith)
@@ -80,7 +75,7 @@ record_kept all h r j =
     let p = accepts h r j in
     let g = p.ranges.by_kind in
     ap (λ (x : Raw). record { raw = x; next = newest_of h r.account })
-    (raw_kept r (kind_of r.kind) _ _ _ (newest_of h r.account) (number_again r.kind p.kind_known) g (unnamed r _ g.named) (at_most r _ _ g.b))
+    (raw_kept r (kind_of r.kind) _ _ _ (newest_of h r.account) (number_again r.kind p.kind_known) g (unnamed r _ g.named) (b_below _ _ g.b))
 
 -- AND SO IS THE IMAGE
 
@@ -102,7 +97,7 @@ module _ {b : Book} {h : History} (w : Kept b h) where
   bytes_same = rw size_same refl
 
   -- where no run is open, a save's answer, and its buffer
-  module _ (idle : is_open b.run ≡ false) (buffer : List ℕ) where
+  module _ (idle : is_some b.run ≡ false) (buffer : List ℕ) where
     pub save_same : save_of b buffer ≡ record { refusal = room_in h buffer; bytes = cond (short_in h buffer) 0 (bytes_in h) }
     save_same =
         rw ((save_no_run b buffer idle).0, bytes_same)

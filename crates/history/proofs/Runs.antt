@@ -7,13 +7,13 @@ use native.Mathlib.Omega.{arith}
 use native.Mathlib.Nat.{min-eq_left, zero-sub, zero-min}
 use lib.ListN.{length, get_or, drop, length-map, length-drop}
 use lib.Seq.{drop-cons, drop-drop, get_or-drop}
-use lib.Dec.{eqb, leb, ltb}
+use lib.Dec.{leb, ltb}
 use borrow.Author.Tests.{ne_eqb, le-leb, lt-leb, le-ltb, ltb-true, ltb-false}
 use Rattle.measures.specs.Cents.{cents}
 use Rattle.measures.specs.declared.Cents.{Cents}
 use Rattle.entries.specs.Kinds.{kind_of}
 use Rattle.entries.specs.Ranges.{amount_most, between, limits_of, named_fits, b_fits, in_range_of}
-use Rattle.std.specs.Prelude.{Ok, Err}
+use Rattle.std.specs.Prelude.{Option, None, Some, Ok, Err, is_some}
 use Rattle.entries.specs.Refusals.{refusal_number, decided_of}
 use Rattle.entries.specs.declared.arrivals.Arrival.{Arrival}
 use Rattle.entries.specs.declared.arrivals.Arrival.TheVariants.{Recorded}
@@ -27,12 +27,11 @@ use Rattle.rules.specs.declared.accounts.Account.{Account}
 use Rattle.rules.proofs.FormulasLaws.{plain}
 use Rattle.book.specs.Runs as books
 use Rattle.book.specs.Chain.{slot_of}
-use Rattle.book.specs.Fresh.{none_noted}
 use Rattle.book.specs.Posting.{enter_of, record_of}
 use Rattle.book.specs.declared.Book.{Book}
 use Rattle.book.specs.declared.Run as declared
 use Rattle.book.proofs.Posting.{enter_run}
-use Rattle.runs.specs.Runs.{RanReply, arrears_of, next_noted, with_run, without_run, goes_on_at, goes_on_after, next_serial, charge_of, noted_next, stepped_of, check_opening_of, open_run_of, step_of, close_run_of}
+use Rattle.runs.specs.Runs.{RanReply, arrears_of, next_noted, with_run, without_run, goes_on_at, goes_on_after, next_serial, charge_of, stepped_of, check_opening_of, open_run_of, step_by, step_of, close_run_of}
 use Rattle.history.specs.History.{History, accounts, entries, last_day, last_serial, named, move_by, balance, four_amounts, amounts, judge_by, judge, offer, replied_by, replied_of}
 use Rattle.history.specs.Laws.{Valid, amount_bound}
 use Rattle.history.specs.Images.{Typed}
@@ -91,7 +90,7 @@ next_same : (a : ℕ) (l : List Cents) → next_noted a l ≡ next_in (notes_in 
 unfolding next_noted notes_in
 next_same a [] = refl
 next_same a (x ∷ l) =
-    tested (λ t. cond t a (next_noted (a + 1) l) ≡ next_in (cond t (record { account = a; arrears = x.0 } ∷ notes_in (a + 1) l) (notes_in (a + 1) l))) (ltb 0 x.0)
+    tested (λ t. cond t (Some a) (next_noted (a + 1) l) ≡ next_in (cond t (record { account = a; arrears = x.0 } ∷ notes_in (a + 1) l) (notes_in (a + 1) l))) (ltb 0 x.0)
     (λ p. refl) (λ p. next_same (a + 1) l)
 
 -- the arrears of an account, noted
@@ -152,22 +151,21 @@ next noted run n ns last e long left =
     }
 
 -- a run is open in the book exactly where it is in the history
-pub open_same : {kept : declared.Run} {noted : List Cents} {run : Run} → RunKept kept noted run → books.is_open kept ≡ is_open run
-open_same (over e k z) = rw (e, k) refl
-open_same {noted = noted} {run} (goes_on n ns e k long last left ranged) =
-    let low = (next noted run n ns last e long left).low in
-    rw (k, ne_eqb n.account 0 (λ z. omega arith)) (rw e refl)
+pub open_same : {kept : Option declared.Run} {run : Run} → RunKept kept run → is_some kept ≡ is_open run
+open_same (over e k) = rw (e, k) refl
+open_same (goes_on n ns noted e k long last left ranged) = rw (e, k) refl
 
-pub arrival_same : {kept : declared.Run} {noted : List Cents} {run : Run} → RunKept kept noted run → books.arrival_of kept ≡ arrival_in run
+pub arrival_same : {kept : Option declared.Run} {run : Run} → RunKept kept run → books.arrival_of kept ≡ arrival_in run
 unfolding books.arrival_of
-arrival_same w = rw (open_same w) refl
+arrival_same (over e k) = rw (e, k) refl
+arrival_same (goes_on n ns noted e k long last left ranged) = rw (e, k) refl
 
-pub kept_with : (b : Book) {c : Book} {h : History} {run : Run} → Kept c h → (c.run ≡ b.run) × (c.noted ≡ b.noted) → RunKept b.run b.noted run → KeptState c (state_with h run)
-kept_with b w e r = record { history = w; run = rw (e.0, e.1) r }
+pub kept_with : (b : Book) {c : Book} {h : History} {run : Run} → Kept c h → c.run ≡ b.run → RunKept b.run run → KeptState c (state_with h run)
+kept_with b w e r = record { history = w; run = rw e r }
 
 -- a book with another run keeps the same history
-run_apart : {b : Book} {h : History} → Kept b h → (run : declared.Run) (noted : List Cents) → Kept (with_run b run noted) h
-run_apart w run noted =
+run_apart : {b : Book} {h : History} → Kept b h → (run : Option declared.Run) → Kept (with_run b run) h
+run_apart w run =
     let a = w.agrees in
     record {
       agrees =
@@ -186,44 +184,35 @@ run_apart w run noted =
 
 pub kept_idle : {b : Book} {h : History} → Kept b h → Kept (without_run b) h
 unfolding without_run
-kept_idle w = run_apart w books.no_run none_noted
+kept_idle w = run_apart w None
 
 -- where no run is open, the book is the same without its run, and the reverse
-pub idle_is : (b : Book) → b.run ≡ books.no_run → b.noted ≡ none_noted → without_run b ≡ b
+pub idle_is : (b : Book) → b.run ≡ None → without_run b ≡ b
 unfolding without_run
-idle_is b e f = rw (← e, ← f) refl
+idle_is b e = rw (← e) refl
 
-pub idle_run : (b : Book) → without_run b ≡ b → (b.run ≡ books.no_run) × (b.noted ≡ none_noted)
+pub idle_run : (b : Book) → without_run b ≡ b → b.run ≡ None
 unfolding without_run
-idle_run b e = (sym (ap (λ (x : Book). x.run) e), sym (ap (λ (x : Book). x.noted) e))
+idle_run b e = sym (ap (λ (x : Book). x.run) e)
 
-pub idle_over : {b : Book} {run : Run} → RunKept b.run b.noted run → is_open run ≡ false → without_run b ≡ b
-idle_over {b} (over e k z) o = idle_is b k z
-idle_over (goes_on n ns e k long last left ranged) o = absurd (true≢false (sym (ap any_left e) ∙ o))
+pub idle_over : {b : Book} {run : Run} → RunKept b.run run → is_open run ≡ false → without_run b ≡ b
+idle_over {b} (over e k) o = idle_is b k
+idle_over (goes_on n ns noted e k long last left ranged) o = absurd (true≢false (sym (ap any_left e) ∙ o))
 
 -- an entry that comes in opens none
 pub idle_entered : (w : Arrival) (b : Book) (r : Raw) → without_run b ≡ b → without_run (enter_of w b r).book ≡ (enter_of w b r).book
-idle_entered w b r e =
-    let i = idle_run b e in
-    let same = enter_run w b r in
-    idle_is (enter_of w b r).book (same.0 ∙ i.0) (same.1 ∙ i.1)
+idle_entered w b r e = idle_is (enter_of w b r).book (enter_run w b r ∙ idle_run b e)
 
 -- a run goes on after an account
-module _ {b : Book} {h : History} (w : Kept b h) (run : Run) (noted : List Cents) (charged at : ℕ) (left : run.left ≡ notes_in (charged + 1) (drop charged noted))
+module _ {b : Book} {h : History} (w : Kept b h) (run : Run) (noted : List Cents) (charged : ℕ) (left : run.left ≡ notes_in (charged + 1) (drop charged noted))
     (long : length noted ≡ accounts) (ranged : RunInRange run) where
-  resumes : KeptState (goes_on_after b (books.run_of run.node run.day run.rate at) noted charged) (state_with h run)
-  unfolding goes_on_at without_run
-  resumes = rw (next_same (charged + 1) (drop charged noted), ← left) (go run.left refl)
+  resumes : KeptState (with_run b (goes_on_after run.node run.day run.rate noted charged)) (state_with h run)
+  unfolding goes_on_at
+  resumes = record { history = run_apart w _; run = rw (next_same (charged + 1) (drop charged noted), ← left) (go run.left refl) }
     where
-      go : (l : List Noted) → run.left ≡ l →
-          KeptState (cond (eqb (next_in l) 0) (without_run b) (with_run b (books.run_of run.node run.day run.rate (next_in l)) noted)) (state_with h run)
-      go [] e = record { history = kept_idle w; run = over e refl refl }
-      go (n ∷ ns) e =
-          let low = (next noted run n ns charged e long left).low in
-          rw (ne_eqb n.account 0 (λ z. omega arith)) (record {
-            history = run_apart w (books.run_of run.node run.day run.rate n.account) noted;
-            run = goes_on n ns e refl long charged left ranged;
-          })
+      go : (l : List Noted) → run.left ≡ l → RunKept (goes_on_at run.node run.day run.rate noted (next_in l)) run
+      go [] e = over e refl
+      go (n ∷ ns) e = goes_on n ns noted e refl long charged left ranged
 
 -- AN OPENING
 module _ {b : Book} {s : State} (w : KeptState b s) (node day rate : ℕ) where
@@ -248,15 +237,15 @@ module _ {b : Book} {s : State} (w : KeptState b s) (node day rate : ℕ) where
   Same t u v x =
       let reply : RanReply =
       decided_of (cond t (Err no.RunState) (cond (not u) (Err no.RunState) (cond v (Err no.RunState) (cond x (Err no.RunState) (Ok tt)))))
-      (λ n. record { book = b; refusal = refusal_number n }) (record { book = goes_on_after b (books.run_of node day rate 0) (map arrears_of b.accounts) 0; refusal = 0 }) in
+      (λ n. record { book = b; refusal = refusal_number n }) (record { book = with_run b (goes_on_after node day rate (map arrears_of b.accounts) 0); refusal = 0 }) in
       let n : ℕ = cond (t || (not u || (v || x))) 28 0 in
       KeptState reply.book (opened n s node day rate) × (reply.refusal ≡ n)
 
   begun : between node 1 2 ≡ true → ltb last_day day ≡ false → ltb late_rate_most rate ≡ false →
-      KeptState (goes_on_after b (books.run_of node day rate 0) (map arrears_of b.accounts) 0) (state_with h (run_of node day rate (notes h accounts [])))
+      KeptState (with_run b (goes_on_after node day rate (map arrears_of b.accounts) 0)) (state_with h (run_of node day rate (notes h accounts [])))
   begun p q r =
       let i = inside node 1 2 p in
-      resumes w.history (run_of node day rate (notes h accounts [])) (map arrears_of b.accounts) 0 0 noted_same
+      resumes w.history (run_of node day rate (notes h accounts [])) (map arrears_of b.accounts) 0 noted_same
       (length-map b.accounts arrears_of ∙ w.history.agrees.accounts_long)
       (record { node_low = i.0; node_high = i.1; day = ltb-false _ _ q; rate = ltb-false _ _ r; small = notes_small w.history.valid accounts [] tt })
 
@@ -289,29 +278,35 @@ module _ {b : Book} {s : State} (w : KeptState b s) where
   abbrev g : History
   g = s.entries
 
-  -- the charge that the book records
-  abbrev entry : Raw
-  entry = charge_of b.run (noted_next b) b.last
+  abbrev Stepped : Type 0
+  Stepped = KeptState (step_of b).book (stepped (step_refusal g s.run) s) × ((step_of b).reply ≡ step_reply s)
 
-  -- one that is refused leaves the run
-  stays : books.is_open b.run ≡ true → (n : ℕ) → judge g entry ≡ suc n → step_refusal g s.run ≡ suc n →
-      KeptState (step_of b).book (stepped (step_refusal g s.run) s) × ((step_of b).reply ≡ step_reply s)
-  unfolding step_of stepped_of replied_of offer
-  stays o n j k =
-      let reply : (record_of b entry).reply ≡ replied_by (suc n) (length g + 1) (amounts g entry) = rw j at (agreement.replied Recorded b g w.history entry) in
-      let kept : Kept (record_of b entry).book g = rw j at (agreement.entered Recorded b g w.history entry) in
-      rw (o, k, reply, ne_eqb (suc n) 0 (λ z. omega arith)) (kept_with b kept (enter_run Recorded b entry) w.run, refl)
-
-  module _ (n : Noted) (ns : List Noted) (e : s.run.left ≡ n ∷ ns) (k : b.run ≡ books.run_of s.run.node s.run.day s.run.rate n.account)
-      (long : length b.noted ≡ accounts) (to : Next b.noted s.run n ns) (ranged : RunInRange s.run) where
+  module _ (n : Noted) (ns : List Noted) (noted : List Cents) (e : s.run.left ≡ n ∷ ns)
+      (k : b.run ≡ Some (books.run_of s.run.node s.run.day s.run.rate n.account noted))
+      (long : length noted ≡ accounts) (to : Next noted s.run n ns) (ranged : RunInRange s.run) where
     abbrev run : Run
     run = s.run
 
     abbrev last : ℕ
     last = last_serial g run.node
 
-    opens : books.is_open b.run ≡ true
-    opens = let low = to.low in rw (k, ne_eqb n.account 0 (λ z. omega arith)) refl
+    abbrev opened_run : declared.Run
+    opened_run = books.run_of run.node run.day run.rate n.account noted
+
+    steps : step_of b ≡ step_by (Some opened_run) b
+    steps = ap (λ r. step_by r b) k
+
+    -- the charge that the book records
+    abbrev entry : Raw
+    entry = charge_of opened_run b.last
+
+    -- one that is refused leaves the run
+    stays : (m : ℕ) → judge g entry ≡ suc m → step_refusal g run ≡ suc m → Stepped
+    unfolding step_by stepped_of replied_of offer
+    stays m j q =
+        let reply : (record_of b entry).reply ≡ replied_by (suc m) (length g + 1) (amounts g entry) = rw j at (agreement.replied Recorded b g w.history entry) in
+        let kept : Kept (record_of b entry).book g = rw j at (agreement.entered Recorded b g w.history entry) in
+        rw (steps, q, reply, ne_eqb (suc m) 0 (λ z. omega arith)) (kept_with b kept (enter_run Recorded b entry) w.run, refl)
 
     small : n.arrears ≤ amount_bound
     small = (rw e at ranged.small).0
@@ -320,7 +315,7 @@ module _ {b : Book} {s : State} (w : KeptState b s) where
     unfolding charge_of between
     charge_same =
         let known : between run.node 1 2 ≡ true = rw (le-leb 1 run.node ranged.node_low, le-leb run.node 2 ranged.node_high) refl in
-        rw (k, to.own, last_same w.history.agrees w.history.valid (late_charge run.node 0 0 0 0) known, plain.late_charge n.arrears run.rate small ranged.rate) refl
+        rw (to.own, last_same w.history.agrees w.history.valid (late_charge run.node 0 0 0 0) known, plain.late_charge n.arrears run.rate small ranged.rate) refl
 
     judged : judge g entry ≡ cond (leb (next_serial last) last) 6 (cond (leb entries (length g)) 7 0)
     judged =
@@ -331,12 +326,9 @@ module _ {b : Book} {s : State} (w : KeptState b s) where
     refusal : step_refusal g run ≡ cond (ltb serial_most (last + 1)) 6 (cond (leb entries (length g)) 7 0)
     refusal = rw e refl
 
-    abbrev Stepped : Type 0
-    Stepped = KeptState (step_of b).book (stepped (step_refusal g run) s) × ((step_of b).reply ≡ step_reply s)
-
     -- the charge is accepted, and the run goes on
     goes : next_serial last ≡ last + 1 → judge g entry ≡ 0 → step_refusal g run ≡ 0 → Stepped
-    unfolding step_of stepped_of replied_of offer
+    unfolding step_by stepped_of replied_of offer
     goes serial j z =
         let charged : entry ≡ charge_in g run n = charge_same ∙ ap (λ x. late_charge run.node n.account run.day x (late_amount n.arrears run.rate)) serial in
         let reply : (record_of b entry).reply ≡ replied_by 0 (length g + 1) (four_amounts 0 0 0 0) =
@@ -345,10 +337,9 @@ module _ {b : Book} {s : State} (w : KeptState b s) where
         subst (λ (x : Raw). Kept (record_of b entry).book (x ∷ g)) charged (rw j at (agreement.entered Recorded b g w.history entry)) in
         let after : Run = run_of run.node run.day run.rate ns in
         let on =
-        resumes kept after b.noted n.account n.account to.rest long
+        resumes kept after noted n.account to.rest long
         (record { node_low = ranged.node_low; node_high = ranged.node_high; day = ranged.day; rate = ranged.rate; small = (rw e at ranged.small).1 }) in
-        rw (opens, z, reply, e)
-        (subst (λ (x : declared.Run). KeptState (goes_on_after (record_of b entry).book x b.noted x.next) (state_with (charge_in g run n ∷ g) after)) (sym k) on, refl)
+        rw (steps, z, reply, e) (on, refl)
 
     step_open : Stepped
     step_open = go (ltb serial_most (last + 1)) (leb entries (length g)) refl refl
@@ -357,21 +348,21 @@ module _ {b : Book} {s : State} (w : KeptState b s) where
         go true u p q =
             let above = ltb-true serial_most (last + 1) p in
             let full : leb (next_serial last) last ≡ true = le-leb (next_serial last) last (omega arith) in
-            stays opens 5 (judged ∙ rw full refl) (refusal ∙ rw p refl)
+            stays 5 (judged ∙ rw full refl) (refusal ∙ rw p refl)
         go false true p q =
             let below = ltb-false serial_most (last + 1) p in
             let new : leb (next_serial last) last ≡ false = lt-leb (next_serial last) last (omega arith) in
-            stays opens 6 (judged ∙ rw (new, q) refl) (refusal ∙ rw (p, q) refl)
+            stays 6 (judged ∙ rw (new, q) refl) (refusal ∙ rw (p, q) refl)
         go false false p q =
             let below = ltb-false serial_most (last + 1) p in
             let new : leb (next_serial last) last ≡ false = lt-leb (next_serial last) last (omega arith) in
             goes (min-eq_left (omega arith)) (judged ∙ rw (new, q) refl) (refusal ∙ rw (p, q) refl)
 
   -- a charge that joins is a value of its type
-  typed_by : RunKept b.run b.noted s.run → (n : Noted) (ns : List Noted) → s.run.left ≡ n ∷ ns → step_refusal g s.run ≡ 0 → Typed (charge_in g s.run n)
-  typed_by (over e k z) n ns q r = absurd (omega (arith, ap (λ (x : List Noted). length x) (sym e ∙ q)))
-  typed_by (goes_on m ms e k long place left ranged) n ns q r =
-      let to = next b.noted s.run n ns place q long left in
+  typed_by : RunKept b.run s.run → (n : Noted) (ns : List Noted) → s.run.left ≡ n ∷ ns → step_refusal g s.run ≡ 0 → Typed (charge_in g s.run n)
+  typed_by (over e k) n ns q r = absurd (omega (arith, ap (λ (x : List Noted). length x) (sym e ∙ q)))
+  typed_by (goes_on m ms noted e k long place left ranged) n ns q r =
+      let to = next noted s.run n ns place q long left in
       let serial : last_serial g s.run.node + 1 ≤ serial_most =
       tested (λ t. ◌≡◌ {A = ℕ} (cond t 6 (cond (leb entries (length g)) 7 0)) 0 → last_serial g s.run.node + 1 ≤ serial_most) (ltb serial_most (last_serial g s.run.node + 1))
       (λ p z. let six : ◌≡◌ {A = ℕ} 6 0 = z in absurd (omega arith)) (λ p z. ltb-false serial_most (last_serial g s.run.node + 1) p) (rw q at r) in
@@ -380,21 +371,20 @@ module _ {b : Book} {s : State} (w : KeptState b s) where
   pub charge_typed : (n : Noted) (ns : List Noted) → s.run.left ≡ n ∷ ns → step_refusal g s.run ≡ 0 → Typed (charge_in g s.run n)
   charge_typed = typed_by w.run
 
-  step_by : RunKept b.run b.noted s.run → KeptState (step_of b).book (stepped (step_refusal g s.run) s) × ((step_of b).reply ≡ step_reply s)
-  unfolding step_of posting_reply_of
-  step_by (over e k z) =
-      let here : books.is_open b.run ≡ false = rw k refl in
+  stepped_by : RunKept b.run s.run → Stepped
+  unfolding step_by posting_reply_of
+  stepped_by (over e k) =
       let there : is_open s.run ≡ false = rw e refl in
-      rw (here, there) (w, refl)
-  step_by (goes_on n ns e k long passed left ranged) = step_open n ns e k long (next b.noted s.run n ns passed e long left) ranged
+      rw (ap (λ r. step_by r b) k, there) (w, refl)
+  stepped_by (goes_on n ns noted e k long passed left ranged) = step_open n ns noted e k long (next noted s.run n ns passed e long left) ranged
 
   pub step_same : KeptState (step_of b).book (stepped (step_refusal g s.run) s) × ((step_of b).reply ≡ step_reply s)
-  step_same = step_by w.run
+  step_same = stepped_by w.run
 
   -- A CLOSE
   closes : KeptState (without_run b) (state_with g no_run)
   unfolding without_run
-  closes = record { history = kept_idle w.history; run = over refl refl refl }
+  closes = record { history = kept_idle w.history; run = over refl refl }
 
   pub close_same : KeptState (close_run_of b).book (closed s) × ((close_run_of b).refusal ≡ close_refusal s.run)
   unfolding close_run_of

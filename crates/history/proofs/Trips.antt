@@ -153,7 +153,7 @@ loaded_idle : (l : List ℕ) → (load_of l).refusal ≡ 0 → without_run (load
 loaded_idle l e = rw (loaded_recorded l e) (loaded l e).idle
 
 loaded_state : (l : List ℕ) → (load_of l).refusal ≡ 0 → KeptState (load_of l).book (state_from (history_in l))
-loaded_state l e = let i = idle_run (load_of l).book (loaded_idle l e) in record { history = loaded_kept l e; run = over refl i.0 i.1 }
+loaded_state l e = record { history = loaded_kept l e; run = over refl (idle_run (load_of l).book (loaded_idle l e)) }
 
 pub image_again : (l : List ℕ) → Bytes l → (load_of l).refusal ≡ 0 → image_in (history_in l) ≡ l
 unfolding image_in records_by

@@ -1,5 +1,5 @@
 -- A book and a history that agree, and that they agree after every entry offered.
-use Rattle.std.specs.Prelude.{ℕ, ◌+◌, ◌≤◌, ◌≡◌, Bool, cond, List, [], ◌∷◌, length, get_or, drop, eqb, ltb}
+use Rattle.std.specs.Prelude.{ℕ, ◌+◌, ◌≤◌, ◌≡◌, Bool, cond, List, [], ◌∷◌, length, get_or, drop, eqb, ltb, Option, None, Some}
 use Rattle.measures.specs.Cents.{cents}
 use Rattle.measures.specs.Days.{day}
 use Rattle.measures.specs.declared.Cents.{Cents}
@@ -14,7 +14,7 @@ use Rattle.entries.specs.declared.data.Data.{Data}
 use Rattle.entries.specs.declared.data.Data.TheVariants as data'
 use Rattle.rules.specs.Accounts.{account_of}
 use Rattle.rules.specs.declared.accounts.Account.{Account}
-use Rattle.book.specs.Fresh.{fresh_book, none_noted}
+use Rattle.book.specs.Fresh.{fresh_book}
 use Rattle.book.specs.Runs as books
 use Rattle.changes.specs.declared.Link.{Link}
 use Rattle.book.specs.Posting.{account_at, enter_of}
@@ -111,10 +111,10 @@ unfoldable pub notes_in : ℕ → List Cents → List Noted
 notes_in a [] = []
 notes_in a (n ∷ ns) = cond (ltb 0 n.0) (record { account = a; arrears = n.0 } ∷ notes_in (a + 1) ns) (notes_in (a + 1) ns)
 
--- the account that is charged next, 0 where none is left
-abbrev pub next_in : List Noted → ℕ
-next_in [] = 0
-next_in (n ∷ ns) = n.account
+-- the account that is charged next
+abbrev pub next_in : List Noted → Option ℕ
+next_in [] = None
+next_in (n ∷ ns) = Some n.account
 
 abbrev pub AllSmall : List Noted → Type 0
 AllSmall [] = Unit {0}
@@ -128,14 +128,14 @@ pub record RunInRange (run : Run) : Type 0 where
   pub rate : run.rate ≤ late_rate_most
   pub small : AllSmall run.left
 
--- A book's run and noted arrears are those of the history's run. While it is open, the accounts left are those after some place that have
--- noted arrears; where it is over, all is zero.
-pub data RunKept (kept : declared.Run) (noted : List Cents) (run : Run) : Type 0 where
-  over : run.left ≡ [] → kept ≡ books.no_run → noted ≡ none_noted → RunKept kept noted run
-  goes_on : (n : Noted) (ns : List Noted) → run.left ≡ n ∷ ns → kept ≡ books.run_of run.node run.day run.rate n.account →
-      length noted ≡ accounts → (place : ℕ) → run.left ≡ notes_in (place + 1) (drop place noted) → RunInRange run → RunKept kept noted run
+-- A book's run is the history's. While it is open, the accounts left are those after some place that have noted arrears; where it is over,
+-- the book has none.
+pub data RunKept (kept : Option declared.Run) (run : Run) : Type 0 where
+  over : run.left ≡ [] → kept ≡ None → RunKept kept run
+  goes_on : (n : Noted) (ns : List Noted) (noted : List Cents) → run.left ≡ n ∷ ns → kept ≡ Some (books.run_of run.node run.day run.rate n.account noted) →
+      length noted ≡ accounts → (place : ℕ) → run.left ≡ notes_in (place + 1) (drop place noted) → RunInRange run → RunKept kept run
 
 -- a book that keeps the history's entries and its run
 pub record KeptState (b : Book) (s : State) : Type 0 where
   pub history : Kept b s.entries
-  pub run : RunKept b.run b.noted s.run
+  pub run : RunKept b.run s.run

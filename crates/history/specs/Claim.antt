@@ -73,7 +73,7 @@ pub record Claim (b : Book) (s : State) (cs : List Call) : Type 0 where
   -- it keeps the history's entries, chains and last serials too
   pub kept : Kept (book_after b cs) (history_after s cs)
   -- and its run: the same node, day and rate, and the same accounts left with the same noted arrears
-  pub run : RunKept (book_after b cs).run (book_after b cs).noted (state_after s cs).run
+  pub run : RunKept (book_after b cs).run (state_after s cs).run
   -- the claims of the history: sums, contributions, refunds with their days, guarantees, corrections
   pub lawful : Lawful (history_after s cs)
   -- a bill of zero days served that the history has after the list was there before it: none joins

@@ -7,9 +7,8 @@ use Rattle.entries.specs.declared.kinds.Kind.TheVariants as kind
 use Rattle.queries.specs.Replies.{statement_reply, contribution_reply}
 use Rattle.queries.specs.declared.statements.StatementReply.{StatementReply}
 use Rattle.queries.specs.declared.contributions.ContributionReply.{ContributionReply}
-use Rattle.pages.specs.Rows.{page_rows, text_of, AllLines}
+use Rattle.pages.specs.Rows.{page_rows, text_of, AllLines, EntryLine}
 use Rattle.pages.specs.Pages.{PageExit, page_exit}
-use Rattle.pages.specs.declared.rows.EntryLine.{EntryLine}
 use Rattle.history.specs.History.{History, accounts, pointer_to, find, fate, target_entry, balance, ◌⇒◌, first_broken, entries_of, total, standing_amount, billed_amount, held_amount, to_arrears, refunds_paid}
 use Rattle.history.specs.Laws.{Valid}
 use Rattle.history.specs.Runs.{State, is_open}

@@ -26,7 +26,7 @@ use Rattle.entries.proofs.Order.{first_here, first_later, first_only}
 use Rattle.entries.proofs.RefusalsLaws.{refusal_above}
 use Rattle.saves.proofs.Saves.{save_in_run, save_no_run, save_size}
 use Rattle.book.specs.Fresh.{entries_most}
-use Rattle.book.specs.Runs.{is_open}
+use Rattle.std.specs.Prelude.{is_some}
 
 -- what is left of the entries from a place on: none, or one and those after it
 pub posts_next : (rs rest : List Record) (r : Record) (b : Book) → rs ≡ r ∷ rest → posts_of b (map raw_in rs) ≡ posts_of (post_of b r.raw).book (map raw_in rest)
@@ -82,8 +82,8 @@ pub image_most : (b : Book) (entries : List ℕ) → bytes_of (next_of b entries
 image_most b entries = omega (arith, posts_count b (read_entries entries), length_entries entries)
 
 -- a list leaves the run as it is
-next_run : (b : Book) (entries : List ℕ) (t : Bool) → is_open b.run ≡ t → is_open (next_of b entries).run ≡ t
-next_run b entries t e = ap is_open (posts_run b (read_entries entries)).0 ∙ e
+next_run : (b : Book) (entries : List ℕ) (t : Bool) → is_some b.run ≡ t → is_some (next_of b entries).run ≡ t
+next_run b entries t e = ap is_some (posts_run b (read_entries entries)) ∙ e
 
 pub carry_17 : (b : Book) (entries results output : List ℕ) → (length entries % record_bytes ≡ 0 → ⊥) →
     record { given = refused_carry 17 0; results = results; output = output } ≡ carry_into b entries results output
@@ -106,12 +106,12 @@ module _ (b : Book) (entries results output : List ℕ) (h : length entries % re
   unfolding carry_refusal entries_refusal carry_refusal_of
   carry_saved = rw (eq-eqb (length entries % record_bytes) 0 h, first_later 0 _ refl, long, first_later 0 _ refl, first_only _) refl
 
-  pub carry_29 : is_open b.run ≡ true →
+  pub carry_29 : is_some b.run ≡ true →
       record { given = refused_carry 29 0; results = results; output = output } ≡ carry_into b entries results output
   unfolding carry_into
   carry_29 e = rw (carry_saved, (save_in_run (next_of b entries) output (next_run b entries true e)).0) refl
 
-  pub carry_21 : is_open b.run ≡ false → ltb (length output) (bytes_of (next_of b entries)) ≡ true →
+  pub carry_21 : is_some b.run ≡ false → ltb (length output) (bytes_of (next_of b entries)) ≡ true →
       record { given = refused_carry 21 0; results = results; output = output } ≡ carry_into b entries results output
   unfolding carry_into
   carry_21 none e = rw (carry_saved, (save_no_run (next_of b entries) output (next_run b entries false none)).0, e) refl
@@ -126,7 +126,7 @@ module _ (b : Book) (entries results output : List ℕ) (h : length entries % re
       rw (eq-eqb (carry_refusal b entries results output) 0 none, long, left, written, save_size next output n saved, q) refl
 
   -- where no run is open, an output that is not too short is not refused
-  pub carry_fits : (next : Book) (n : Refusal) → is_open b.run ≡ false → next ≡ next_of b entries →
+  pub carry_fits : (next : Book) (n : Refusal) → is_some b.run ≡ false → next ≡ next_of b entries →
       ltb (length output) (bytes_of (next_of b entries)) ≡ false → refused_save (refusal_number n) ≡ save_of next output → ⊥
   carry_fits next n none q e saved =
       let fits : refused_save (refusal_number n) ≡ accepted_save (bytes_of (next_of b entries)) =

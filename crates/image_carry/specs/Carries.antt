@@ -8,7 +8,7 @@ use Rattle.book.specs.Posting.{posts_of}
 use Rattle.book.specs.declared.Book.{Book}
 use Rattle.carry.specs.Carry.{carry_refusal_of, carry_results_of}
 use Rattle.saves.specs.Saves.{bytes_of, save_of, saved_in}
-use Rattle.loads.specs.Loaded.{LoadedReply, raw_in}
+use Rattle.loads.specs.Loaded.{LoadedReply, record_number, raw_in}
 use Rattle.loads.specs.declared.Fault.{Fault}
 use Rattle.entries.specs.Order.{first_refusal}
 use Rattle.image_carry.specs.declared.CarryGiven.{CarryGiven}
@@ -21,7 +21,7 @@ accepted_carry bytes = record { refusal = 0; «record» = 0; bytes = bytes }
 
 -- an answer with the record at fault as what is given
 unfoldable pub carry_given_of : Result ℕ Fault → CarryGiven
-carry_given_of (Err f) = refused_carry (refusal_number f.refusal) f.«record»
+carry_given_of (Err f) = refused_carry (refusal_number f.refusal) (record_number f)
 carry_given_of (Ok n) = accepted_carry n
 
 -- what a carry-over gives, and its result list and output at the end

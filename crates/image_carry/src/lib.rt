@@ -31,9 +31,9 @@ impl From<Result<usize, Fault>> for CarryGiven {
     #[tactic(auto, unfolding(crate::specs::Carries::carry_given_of))]
     fn from(answer: Result<usize, Fault>) -> CarryGiven {
         match answer {
-            Err(Fault { refusal, record }) => CarryGiven {
-                refusal: refusal.into(),
-                record,
+            Err(fault) => CarryGiven {
+                refusal: fault.refusal.into(),
+                record: fault.record_number(),
                 bytes: 0,
             },
             Ok(bytes) => CarryGiven {
@@ -103,7 +103,7 @@ fn carry_into(
     if results.len() < entries.len() / RECORD {
         return Err(Refusal::ResultsShort.into());
     }
-    if book.run.is_open() {
+    if book.run.is_some() {
         return Err(Refusal::SaveInRun.into());
     }
     if too_short(book, entries, output.len()) {

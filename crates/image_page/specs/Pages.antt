@@ -1,7 +1,7 @@
 -- The page of an account of an image.
 use Rattle.std.specs.Prelude.{ℕ, cond, List, eqb, Result, Ok, Err}
 use Rattle.entries.specs.Refusals.{refusal_number}
-use Rattle.loads.specs.Loaded.{LoadedReply}
+use Rattle.loads.specs.Loaded.{LoadedReply, record_number}
 use Rattle.loads.specs.declared.Fault.{Fault}
 use Rattle.pages.specs.Pages.{PageExit, page_of}
 use Rattle.image_page.specs.declared.PageGiven.{PageGiven}
@@ -17,7 +17,7 @@ page_given refusal faulty bytes = record { refusal = refusal; «record» = fault
 
 -- an answer with the record at fault as what is given
 unfoldable pub page_given_of : Result ℕ Fault → PageGiven
-page_given_of (Err f) = page_given (refusal_number f.refusal) f.«record» 0
+page_given_of (Err f) = page_given (refusal_number f.refusal) (record_number f) 0
 page_given_of (Ok n) = page_given 0 0 n
 
 abbrev pub page_image_exit : PageExit → PageImageExit

@@ -28,9 +28,9 @@ impl From<PageImageAnswer> for PageGiven {
     #[tactic(auto, unfolding(crate::specs::Pages::page_given_of))]
     fn from(answer: PageImageAnswer) -> PageGiven {
         match answer {
-            Err(Fault { refusal, record }) => PageGiven {
-                refusal: refusal.into(),
-                record,
+            Err(fault) => PageGiven {
+                refusal: fault.refusal.into(),
+                record: fault.record_number(),
                 bytes: 0,
             },
             Ok(bytes) => PageGiven {

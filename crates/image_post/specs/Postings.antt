@@ -9,7 +9,7 @@ use Rattle.codec.specs.Records.{record_bytes, record_in}
 use Rattle.book.specs.Posting.{post_of}
 use Rattle.book.specs.declared.Book.{Book}
 use Rattle.saves.specs.Saves.{bytes_of, save_of, saved_in}
-use Rattle.loads.specs.Loaded.{LoadedReply}
+use Rattle.loads.specs.Loaded.{LoadedReply, record_number}
 use Rattle.loads.specs.declared.Fault.{Fault}
 use Rattle.entries.specs.Order.{first_refusal}
 use Rattle.image_post.specs.declared.PostingGiven.{PostingGiven}
@@ -34,7 +34,7 @@ refused_posting n faulty = posting_given (posting_reply n 0 0 0 0 0) faulty 0
 
 -- an answer with the record at fault as what is given
 unfoldable pub posting_given_of : Result Written Fault → PostingGiven
-posting_given_of (Err f) = refused_posting (refusal_number f.refusal) f.«record»
+posting_given_of (Err f) = refused_posting (refusal_number f.refusal) (record_number f)
 posting_given_of (Ok w) = posting_given (posting_reply_of (Ok w.accepted)) 0 w.bytes
 
 -- what a posting gives, and its output at the end

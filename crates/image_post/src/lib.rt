@@ -56,7 +56,7 @@ impl From<Result<Written, Fault>> for PostingGiven {
     #[tactic(auto, unfolding(rules::specs::Answers::posting_reply_of, crate::specs::Postings::posting_given_of))]
     fn from(answer: Result<Written, Fault>) -> PostingGiven {
         match answer {
-            Err(Fault { refusal, record }) => posting_given(Err(refusal).into(), record, 0),
+            Err(fault) => posting_given(Err(fault.refusal).into(), fault.record_number(), 0),
             Ok(Written { accepted, bytes }) => posting_given(Ok(accepted).into(), 0, bytes),
         }
     }

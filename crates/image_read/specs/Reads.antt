@@ -1,6 +1,6 @@
 -- The statement and the contribution query of an image.
 use Rattle.std.specs.Prelude.{ℕ, false, cond, eqb, Result, Ok, Err}
-use Rattle.loads.specs.Loaded.{LoadedReply}
+use Rattle.loads.specs.Loaded.{LoadedReply, record_number}
 use Rattle.loads.specs.declared.Fault.{Fault}
 use Rattle.queries.specs.Statements.{statement_reply_of, statement_of}
 use Rattle.queries.specs.Contributions.{contribution_reply_of, contribution_query_of}
@@ -30,7 +30,7 @@ statement_given r faulty =
 
 -- an answer with the record at fault as what is given
 unfoldable pub statement_given_of : Result StatementFigures Fault → StatementGiven
-statement_given_of (Err f) = statement_given (statement_reply_of (Err f.refusal)) f.«record»
+statement_given_of (Err f) = statement_given (statement_reply_of (Err f.refusal)) (record_number f)
 statement_given_of (Ok s) = statement_given (statement_reply_of (Ok s)) 0
 
 -- a refused image: the number, its record, and otherwise zeros; else the statement
@@ -54,7 +54,7 @@ contribution_given r faulty =
     }
 
 unfoldable pub contribution_given_of : Result ContributionFigures Fault → ContributionGiven
-contribution_given_of (Err f) = contribution_given (contribution_reply_of (Err f.refusal)) f.«record»
+contribution_given_of (Err f) = contribution_given (contribution_reply_of (Err f.refusal)) (record_number f)
 contribution_given_of (Ok s) = contribution_given (contribution_reply_of (Ok s)) 0
 
 -- a refused image: the number, its record, and otherwise zeros; else the contribution query

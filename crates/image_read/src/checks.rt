@@ -22,9 +22,9 @@ impl From<Result<u16, Fault>> for CheckGiven {
     #[tactic(auto, unfolding(crate::specs::Checks::check_given_of))]
     fn from(answer: Result<u16, Fault>) -> CheckGiven {
         match answer {
-            Err(Fault { refusal, record }) => CheckGiven {
-                refusal: refusal.into(),
-                record,
+            Err(fault) => CheckGiven {
+                refusal: fault.refusal.into(),
+                record: fault.record_number(),
                 entries: 0,
             },
             Ok(entries) => CheckGiven {

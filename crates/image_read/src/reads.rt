@@ -45,9 +45,9 @@ impl From<Result<StatementFigures, Fault>> for StatementGiven {
     #[tactic(auto, unfolding(queries::specs::Statements::statement_reply_of, crate::specs::Reads::statement_given_of))]
     fn from(answer: Result<StatementFigures, Fault>) -> StatementGiven {
         match answer {
-            Err(Fault { refusal, record }) => StatementGiven {
-                refusal: refusal.into(),
-                record,
+            Err(fault) => StatementGiven {
+                refusal: fault.refusal.into(),
+                record: fault.record_number(),
                 ..StatementGiven::default()
             },
             Ok(figures) => StatementGiven {
@@ -89,9 +89,9 @@ impl From<Result<ContributionFigures, Fault>> for ContributionGiven {
     #[tactic(auto, unfolding(queries::specs::Contributions::contribution_reply_of, crate::specs::Reads::contribution_given_of))]
     fn from(answer: Result<ContributionFigures, Fault>) -> ContributionGiven {
         match answer {
-            Err(Fault { refusal, record }) => ContributionGiven {
-                refusal: refusal.into(),
-                record,
+            Err(fault) => ContributionGiven {
+                refusal: fault.refusal.into(),
+                record: fault.record_number(),
                 ..ContributionGiven::default()
             },
             Ok(figures) => ContributionGiven {

@@ -1,8 +1,7 @@
 // The statement printer's lines.
 #![tactic(auto)]
 
-ghost use Rattle.std.specs.Prelude.{◌+◌, ◌*◌, ◌≤◌, ◌<◌, ◌≡◌, ◌∷◌, ◌++◌, length};
-ghost use Rattle.decimal.specs.Decimal.{space, digits};
+ghost use Rattle.std.specs.Prelude.{◌+◌, ◌*◌, ◌<◌, ◌≡◌, length};
 ghost use Rattle.lines.specs.Lines.{longest_line, line_of, account_line, end_line, refused_line};
 
 use buffers::Text;
@@ -17,8 +16,7 @@ pub type Line = Text<LONGEST_LINE>;
 #[tactic(auto, unfolding(crate::specs::Lines::line_of))]
 fn line(word: &[u8], numbers: &[u64]) -> Line
     requires { length word.now + 21 * length numbers.now < longest_line }
-    ensures text { result ≡ line_of word.now numbers.now }
-    ensures short { length result ≤ longest_line }
+    ensures { result ≡ line_of word.now numbers.now }
 {
     let mut line = Line::new();
     line.push(word);
@@ -32,8 +30,7 @@ fn line(word: &[u8], numbers: &[u64]) -> Line
 
 // Account, arrears, credit, deposit held, held.
 pub fn account_line(account: u16, arrears: u64, credit: u64, deposit: u64, held: u64) -> Line
-    ensures text { result ≡ account_line account arrears credit deposit held }
-    ensures short { length result ≤ longest_line }
+    ensures { result ≡ account_line account arrears credit deposit held }
 {
     line(
         number(u64::from(account)).text(),
@@ -43,16 +40,14 @@ pub fn account_line(account: u16, arrears: u64, credit: u64, deposit: u64, held:
 
 // `end` and the count.
 pub fn end_line(count: u64) -> Line
-    ensures text { result ≡ end_line count }
-    ensures short { length result ≤ longest_line }
+    ensures { result ≡ end_line count }
 {
     line(b"end", &[count])
 }
 
 // `refused`, the refusal's number and the record at fault.
 pub fn refused_line(number: u64, record: u64) -> Line
-    ensures text { result ≡ refused_line number «record» }
-    ensures short { length result ≤ longest_line }
+    ensures { result ≡ refused_line number «record» }
 {
     line(b"refused", &[number, record])
 }

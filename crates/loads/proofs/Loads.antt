@@ -96,17 +96,17 @@ module _ (s : List ℕ) (rs : List (List ℕ)) (e : check_of s ≡ Ok tt)
       let known = checked s e in
       omega (arith, known.sized, known.short, length-map rs decode_record, ap length behind, length_decode_all (count_in s) (drop record_bytes s))
 
--- a record that is refused, by n, ends a load, and one that is not leaves the others
-pub record_stops : (rs rest : List Record) (r : Record) (b : Book) (i : ℕ) (n : Refusal) → rs ≡ r ∷ rest → record_refusal b r ≡ refusal_number n →
-    load_all rs b i ≡ refused_load (refusal_number n) i
-unfolding load_all
-record_stops rs rest r b i n e stops = rw (e, stops, is_refusal n) refl
+-- of records in a loop over their bytes, one that is refused, by n, ends a load, and one that is not leaves the others
+module _ {s rest : List (List ℕ)} {bytes : List ℕ} {r : Record} (b : Book) (i : ℕ) (e : s ≡ bytes ∷ rest) (decoded : r ≡ decode_record bytes) where
+  pub record_stops : (n : Refusal) → refusal_number n ≡ record_refusal b r → load_all (map decode_record s) b i ≡ refused_load (refusal_number n) i
+  unfolding load_all
+  record_stops n stops = rw (e, ← decoded, ← stops, is_refusal n) refl
 
-pub record_goes_on : (rs rest : List Record) (r : Record) (b : Book) (i : ℕ) → rs ≡ r ∷ rest → record_refusal b r ≡ 0 →
-    load_all rs b i ≡ load_all rest (record_of b r.raw).book (i + 1)
-unfolding load_all
-record_goes_on rs rest r b i e goes = rw (e, eq-eqb (record_refusal b r) 0 goes) refl
+  pub record_goes_on : 0 ≡ record_refusal b r → load_all (map decode_record s) b i ≡ load_all (map decode_record rest) (record_of b r.raw).book (i + 1)
+  unfolding load_all
+  record_goes_on goes = rw (e, ← decoded, eq-eqb (record_refusal b r) 0 (sym goes)) refl
 
-pub none_left : (rs : List Record) (b : Book) (i : ℕ) → rs ≡ [] → load_all rs b i ≡ accepted_load b
+pub none_left : (s : List (List ℕ)) (b : Book) (i : ℕ) → length s ≡ 0 → load_all (map decode_record s) b i ≡ accepted_load b
 unfolding load_all
-none_left rs b i e = rw e refl
+none_left [] b i h = refl
+none_left (bytes ∷ s) b i h = absurd (omega arith)

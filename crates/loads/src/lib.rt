@@ -5,18 +5,27 @@ ghost use Rattle.std.specs.Prelude.{◌≡◌, OnOk};
 ghost use Rattle.entries.specs.Refusals.{check_number};
 ghost use Rattle.book.specs.Fresh.{fresh_book};
 ghost use Rattle.book.specs.Posting.{record_of};
-ghost use Rattle.loads.specs.Loaded.{no_record, loaded_reply, loaded_from, record_refusal};
+ghost use Rattle.loads.specs.Loaded.{no_record, record_number, loaded_reply, loaded_from, record_refusal};
 ghost use Rattle.loads.specs.Loads.{load_of};
 
 use book::{Book, Next};
 use codec::{RECORD, Record, check, records_in};
 use entries::{Arrival, Refusal, refuse_if};
 
-// Why an image is refused: the refusal, and the record at fault, 0 where none is.
+// Why an image is refused: the refusal, and the record at fault, counted from 1, where one is.
 #[derive(Clone, Copy, Debug, PartialEq, Eq)]
 pub struct Fault {
     pub refusal: Refusal,
-    pub record: u16,
+    pub record: Option<u16>,
+}
+
+impl Fault {
+    // The documents' number of the record: 0 where none is at fault.
+    pub fn record_number(self) -> u16
+        ensures { result ≡ record_number self }
+    {
+        self.record.unwrap_or(0)
+    }
 }
 
 pub type LoadAnswer = Result<(), Fault>;
@@ -29,7 +38,10 @@ impl From<Refusal> for Fault {
     ghost from_gives = { λ refusal fault. fault ≡ no_record refusal };
 
     fn from(refusal: Refusal) -> Fault {
-        Fault { refusal, record: 0 }
+        Fault {
+            refusal,
+            record: None,
+        }
     }
 }
 
@@ -51,9 +63,9 @@ fn load_into(book: &mut Book, image: &[u8]) -> LoadAnswer
 {
     check(image)?;
     let records = records_in(&image[RECORD..]);
-    for (i, bytes) in records.iter().enumerate() {
+    for (number, bytes) in (1..).zip(records) {
         if let Err(refusal) = record(book, Record::decode(bytes)) {
-            let record = i as u16 + 1;
+            let record = Some(number);
             return Err(Fault { refusal, record });
         }
     }

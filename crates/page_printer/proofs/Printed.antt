@@ -13,7 +13,7 @@ use Rattle.entries.specs.Refusals.{refusal_number, decided_of}
 use Rattle.entries.proofs.RefusalsLaws.{refusal_above}
 use Rattle.lines.specs.Lines.{refused_line}
 use Rattle.book.specs.Fresh.{accounts_most}
-use Rattle.loads.specs.Loaded.{LoadedReply}
+use Rattle.loads.specs.Loaded.{LoadedReply, record_number}
 use Rattle.loads.specs.declared.Fault.{Fault}
 use Rattle.pages.specs.Rows.{page_bytes}
 use Rattle.pages.specs.Pages.{page_text_of, page_of}
@@ -60,13 +60,13 @@ module _ (l : LoadedReply) (account : ℕ) (after : List ℕ) where
       by_outcome (refused r i f x p) = absurd (f (sym (ap (λ (v : PageImageExit). v.given.refusal) (e ∙ x))))
 
   -- a refusal: its line is printed
-  pub given_refusal : (f : Fault) → exit (page_given (refusal_number f.refusal) f.«record» 0) after ≡ page_image l account before →
-      printed_page l account ≡ refused_line (refusal_number f.refusal) f.«record»
+  pub given_refusal : (f : Fault) → exit (page_given (refusal_number f.refusal) (record_number f) 0) after ≡ page_image l account before →
+      printed_page l account ≡ refused_line (refusal_number f.refusal) (record_number f)
   given_refusal f e = by_outcome (outcome l account before refl)
     where
-      by_outcome : Outcome l account before → printed_page l account ≡ refused_line (refusal_number f.refusal) f.«record»
+      by_outcome : Outcome l account before → printed_page l account ≡ refused_line (refusal_number f.refusal) (record_number f)
       by_outcome (paged x p) = absurd (omega (arith, refusal_above f.refusal, ap (λ (v : PageImageExit). v.given.refusal) (e ∙ x)))
       by_outcome (refused r i h x p) =
           let number : refusal_number f.refusal ≡ r = ap (λ (v : PageImageExit). v.given.refusal) (e ∙ x) in
-          let faulty : f.«record» ≡ i = ap (λ (v : PageImageExit). v.given.«record») (e ∙ x) in
+          let faulty : record_number f ≡ i = ap (λ (v : PageImageExit). v.given.«record») (e ∙ x) in
           rw (number, faulty) p

@@ -21,7 +21,7 @@ pub fn printed_page(image: &[u8], account: u16) -> Text<PAGE>
         Ok(bytes) => text.push(&page[..bytes]),
         Err(fault) => {
             let number = u8::from(fault.refusal);
-            text.push(refused_line(u64::from(number), u64::from(fault.record)).as_slice());
+            text.push(refused_line(u64::from(number), u64::from(fault.record_number())).as_slice());
         }
     }
     text

@@ -80,6 +80,11 @@ begun_full {rows} {whole} {i} {ls} h k =
     let none : entries_shown - i ≡ 0 = omega arith in
     sym (append-nil rows) ∙ (rw (none, take_all i rows (omega (arith, k.long))) at k.text)
 
+-- no line is left, or no entry
+pub begun_ends : {rows whole : List (List ℕ)} {i left : ℕ} {ls : List Link} → i + left ≡ entries_shown → (0 < left → ls ≡ []) → Begun rows whole i ls → rows ≡ whole
+begun_ends {left = zero} h e k = begun_full (omega arith) k
+begun_ends {left = suc n} h e k = begun_all (e (omega arith)) k
+
 -- THE CALL
 
 -- what 3 and 23 leave

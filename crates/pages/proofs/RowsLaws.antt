@@ -8,8 +8,7 @@ use lib.Seq.{take_at, drop_at}
 use Rattle.decimal.specs.Decimal.{newline, line_columns, digits, dollars, right}
 use Rattle.decimal.proofs.Decimal.{decimal_text, at_most_twenty_one}
 use Rattle.queries.specs.declared.statements.StatementReply.{StatementReply}
-use Rattle.pages.specs.Rows.{line_bytes, entries_shown, closed, blank_row, account_row, figure_row, entry_row, entry_rows, figure_rows, head_rows, text_of, Line, AllLines, FiguresFit, EntryFits, AllFit, PageForm}
-use Rattle.pages.specs.declared.rows.EntryLine.{EntryLine}
+use Rattle.pages.specs.Rows.{line_bytes, entries_shown, closed, blank_row, account_row, figure_row, entry_row, entry_rows, figure_rows, head_rows, text_of, Line, AllLines, FiguresFit, EntryFits, AllFit, PageForm, EntryLine}
 
 blank_long : length blank_row ≡ line_bytes
 unfolding blank_row right

@@ -14,8 +14,7 @@ use Rattle.book.specs.declared.Book.{Book}
 use Rattle.queries.specs.Chain.{walk_at}
 use Rattle.queries.specs.Statements.{statement_of}
 use Rattle.saves.specs.Saves.{raw_of}
-use Rattle.pages.specs.Rows.{page_bytes, page_rows, text_of}
-use Rattle.pages.specs.declared.rows.EntryLine.{EntryLine}
+use Rattle.pages.specs.Rows.{page_bytes, page_rows, text_of, EntryLine}
 
 -- a bill's or payment's standing amount, else the posted one, which is zero where the kind has none
 unfoldable pub shown_amount : Entry → ℕ

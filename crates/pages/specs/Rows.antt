@@ -2,7 +2,6 @@
 use Rattle.std.specs.Prelude.{ℕ, zero, suc, ◌*◌, ◌≤◌, ◌<◌, ◌≡◌, List, [], ◌∷◌, ◌++◌, map, length, take, drop}
 use Rattle.decimal.specs.Decimal.{newline, line_columns, digits, dollars, right}
 use Rattle.queries.specs.declared.statements.StatementReply.{StatementReply}
-use Rattle.pages.specs.declared.rows.EntryLine.{EntryLine}
 
 -- the lines of a page, and the bytes of a line and of a page
 abbrev pub page_lines : ℕ
@@ -32,6 +31,13 @@ account_row account = closed (right 3 (digits account) ++ right 77 [])
 -- an amount, to column 80
 unfoldable pub figure_row : ℕ → List ℕ
 figure_row cents = closed (right line_columns (dollars cents))
+
+-- what a line shows of an entry: its number, day, kind and amount in cents
+pub record EntryLine : Type 0 where
+  pub number : ℕ
+  pub day : ℕ
+  pub kind : ℕ
+  pub amount : ℕ
 
 -- an entry's number in columns 1 to 4, its day in 6 to 10, its kind in 12 to 13 and its amount to column 80
 unfoldable pub entry_row : EntryLine → List ℕ

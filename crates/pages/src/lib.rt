@@ -3,18 +3,17 @@
 
 mod rows;
 
-ghost use Rattle.std.specs.Prelude.{◌<◌, ◌≡◌};
+ghost use Rattle.std.specs.Prelude.{◌≡◌};
 ghost use Rattle.entries.specs.Refusals.{check_rows};
 ghost use Rattle.queries.specs.Chain.{walk_at};
 ghost use Rattle.queries.specs.Statements.{statement_of};
 ghost use Rattle.pages.specs.Rows.{entries_shown, head_rows, entry_rows, page_rows};
-ghost use Rattle.pages.specs.Pages.{shown_amount, entry_line_of, entry_lines_of, page_refusals, page_exit_of, page_of};
+ghost use Rattle.pages.specs.Pages.{shown_amount, entry_lines_of, page_refusals, page_exit_of, page_of};
 
 use book::{Book, check_account};
 use entries::{Entry, Kind, Refusal, refuse_if};
 use queries::{StatementReply, statement};
-pub use rows::EntryLine;
-use rows::{LINE, account_row, blank_row, entry_row, figure_row};
+use rows::{LINE, ShownAccount, account_row, blank_row, entry_row, figure_row};
 use saves::raw_of;
 
 // The lines of a page, those before the first entry, and how many entries it shows.
@@ -42,19 +41,6 @@ fn shown_amount(entry: Entry) -> u64
     }
 }
 
-// What a page's line shows of the entry of a number.
-#[tactic(auto, unfolding(crate::specs::Pages::entry_line_of))]
-fn entry_line(number: u16, entry: Entry) -> EntryLine
-    ensures { result ≡ entry_line_of number entry }
-{
-    EntryLine {
-        number,
-        day: entry.day.0,
-        kind: entry.data.particulars().kind.into(),
-        amount: shown_amount(entry),
-    }
-}
-
 // 3, then 23.
 #[tactic(auto, unfolding(entries::specs::Refusals::refuse_if))]
 fn check_page(account: u16, bytes: usize) -> Result<(), Refusal>
@@ -65,9 +51,8 @@ fn check_page(account: u16, bytes: usize) -> Result<(), Refusal>
 }
 
 // Lines 1 to 7.
-fn head_rows(account: u16, figures: StatementReply) -> [[u8; LINE]; HEAD]
-    requires { account < 1000 }
-    ensures { result ≡ head_rows account figures }
+fn head_rows(account: ShownAccount, figures: StatementReply) -> [[u8; LINE]; HEAD]
+    ensures { result ≡ head_rows account.number figures }
 {
     [
         account_row(account),
@@ -85,24 +70,21 @@ fn entry_rows(book: &Book, account: u16) -> [[u8; LINE]; ENTRIES_SHOWN]
     ensures { result ≡ entry_rows entries_shown (entry_lines_of (walk_at book.now account)) }
 {
     let mut rows = [blank_row(); ENTRIES_SHOWN];
-    let mut chain = book.chain(book.account(account).newest);
-    for row in &mut rows {
-        let Some(link) = chain.next() else {
-            break;
-        };
-        *row = entry_row(entry_line(link.place as u16 + 1, link.entry));
+    let chain = book.chain(book.account(account).newest);
+    for (i, link) in chain.take(ENTRIES_SHOWN).enumerate() {
+        rows[i] = entry_row(link);
     }
     rows
 }
 
 // All lines: the last is blank.
-fn page_rows(book: &Book, account: u16) -> [[u8; LINE]; LINES]
-    requires { account < 1000 }
-    ensures { result ≡ page_rows account (statement_of book.now account 0) (entry_lines_of (walk_at book.now account)) }
+fn page_rows(book: &Book, account: ShownAccount) -> [[u8; LINE]; LINES]
+    ensures { result ≡ page_rows account.number (statement_of book.now account.number 0) (entry_lines_of (walk_at book.now account.number)) }
 {
     let mut rows = [blank_row(); LINES];
-    rows[..HEAD].copy_from_slice(&head_rows(account, statement(book, account, 0).into()));
-    rows[HEAD..LINES - 1].copy_from_slice(&entry_rows(book, account));
+    let figures = statement(book, account.number, 0);
+    rows[..HEAD].copy_from_slice(&head_rows(account, figures.into()));
+    rows[HEAD..LINES - 1].copy_from_slice(&entry_rows(book, account.number));
     rows
 }
 
@@ -112,6 +94,7 @@ pub fn page(book: &Book, account: u16, buf: &mut [u8]) -> PageAnswer
     ensures { page_exit_of result buf.new ≡ page_of book.now account buf.old }
 {
     check_page(account, buf.len())?;
-    buf[..PAGE].copy_from_slice(page_rows(book, account).as_flattened());
+    let shown = ShownAccount { number: account };
+    buf[..PAGE].copy_from_slice(page_rows(book, shown).as_flattened());
     Ok(PAGE)
 }

@@ -1,8 +1,11 @@
 // The lines of a page, each 80 columns closed by a newline.
-ghost use Rattle.std.specs.Prelude.{◌<◌, ◌≡◌, length};
+ghost use Rattle.std.specs.Prelude.{◌+◌, ◌<◌, ◌≡◌, length};
 ghost use Rattle.pages.specs.Rows.{line_bytes, blank_row, account_row, figure_row, entry_row};
+ghost use Rattle.pages.specs.Pages.{entry_line_of};
 
+use crate::shown_amount;
 use buffers::Text;
+use changes::Link;
 use decimal::{COLUMNS, amount, number};
 
 // The bytes of a line.
@@ -10,14 +13,11 @@ pub const LINE: usize = COLUMNS + 1;
 
 type Row = Text<LINE>;
 
-// What a line shows of an entry.
+// An account whose number has at most three digits.
 #[derive(Clone, Copy)]
-pub struct EntryLine {
+pub struct ShownAccount {
     pub number: u16,
-    pub day: u16,
-    pub kind: u8,
-    // In cents.
-    pub amount: u64,
+    pub ghost three_digits: { number < 1000 },
 }
 
 // The bytes of a full line.
@@ -39,14 +39,13 @@ pub fn blank_row() -> [u8; LINE]
     row
 }
 
-// The account in columns 1 to 3: at most three digits.
+// The account in columns 1 to 3.
 #[tactic(auto, unfolding(crate::specs::Rows::account_row, decimal::specs::Decimal::right))]
-pub fn account_row(account: u16) -> [u8; LINE]
-    requires { account < 1000 }
-    ensures { result ≡ account_row account }
+pub fn account_row(account: ShownAccount) -> [u8; LINE]
+    ensures { result ≡ account_row account.number }
 {
     let mut row = Row::new();
-    row.push(number(u64::from(account)).last(3));
+    row.push(number(u64::from(account.number)).last(3));
     row.push(&[b' '; 77]);
     row.push(b"\n");
     whole(&row)
@@ -63,17 +62,19 @@ pub fn figure_row(cents: u64) -> [u8; LINE]
     whole(&row)
 }
 
-// An entry: its number to column 4, day to 10, kind to 13 and amount to 80.
+// An entry: its number, which is its place counted from 1, to column 4, its day to 10, kind to 13 and amount to 80.
 #[tactic(auto, unfolding(crate::specs::Rows::entry_row))]
-pub fn entry_row(line: EntryLine) -> [u8; LINE]
-    requires { line.number < 10000 }
-    ensures { result ≡ entry_row line }
+pub fn entry_row(link: Link) -> [u8; LINE]
+    requires { link.place < 9999 }
+    ensures { result ≡ entry_row (entry_line_of (link.place + 1) link.entry) }
 {
+    let Link { place, entry } = link;
+    let kind = u8::from(entry.data.particulars().kind);
     let mut row = Row::new();
-    row.push(number(u64::from(line.number)).last(4));
-    row.push(number(u64::from(line.day)).last(6));
-    row.push(number(u64::from(line.kind)).last(3));
-    row.push(amount(line.amount).last(67));
+    row.push(number(place as u64 + 1).last(4));
+    row.push(number(u64::from(entry.day.0)).last(6));
+    row.push(number(u64::from(kind)).last(3));
+    row.push(amount(shown_amount(entry)).last(67));
     row.push(b"\n");
     whole(&row)
 }

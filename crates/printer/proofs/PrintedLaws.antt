@@ -12,7 +12,7 @@ use Rattle.book.specs.Posting.{account_at}
 use Rattle.book.specs.declared.Book.{Book}
 use Rattle.queries.specs.Statements.{statement_of}
 use Rattle.queries.specs.declared.statements.StatementReply.{StatementReply}
-use Rattle.loads.specs.Loaded.{LoadAnswer, loaded_reply}
+use Rattle.loads.specs.Loaded.{LoadAnswer, record_number, loaded_reply}
 use Rattle.loads.specs.declared.Fault.{Fault}
 use Rattle.book.specs.declared.Next.{Next}
 use Rattle.std.specs.Prelude.{Ok, Err}
@@ -35,6 +35,6 @@ pub printed_book : (l : Next LoadAnswer) (x : Unit {0}) → l.answer ≡ Ok x �
 unfolding printed_of loaded_reply
 printed_book l x e = rw e
 
-pub printed_refused : (l : Next LoadAnswer) (f : Fault) → l.answer ≡ Err f → printed_of (loaded_reply l) ≡ refused_line (refusal_number f.refusal) f.«record»
+pub printed_refused : (l : Next LoadAnswer) (f : Fault) → l.answer ≡ Err f → printed_of (loaded_reply l) ≡ refused_line (refusal_number f.refusal) (record_number f)
 unfolding printed_of loaded_reply
 printed_refused l f e = rw (e, is_refusal f.refusal)

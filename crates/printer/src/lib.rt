@@ -43,7 +43,7 @@ pub fn printed(loaded: Loaded) -> Text<ROOM>
         Err(fault) => {
             let mut text = Text::new();
             let number = u8::from(fault.refusal);
-            text.push(refused_line(u64::from(number), u64::from(fault.record)).as_slice());
+            text.push(refused_line(u64::from(number), u64::from(fault.record_number())).as_slice());
             text
         }
     }

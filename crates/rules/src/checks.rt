@@ -6,7 +6,7 @@ ghost use Rattle.rules.specs.Checks.{period_years, next_reduction, deposit_clash
 
 use crate::accounts::Account;
 use calendar::years_on;
-use entries::{Entry, Kind, Particulars, Raw, Refusal, refuse_if};
+use entries::{Entry, Incoming, Kind, Particulars, Refusal, refuse_if};
 use measures::{Cents, Day};
 
 // The calendar years from a contribution on in which added customers bring refunds; an expiry comes after them.
@@ -52,9 +52,10 @@ fn refuse_of(kind: Kind, of: Kind, broken: bool, refusal: Refusal) -> Result<(),
 
 // 9, 24 and 10 of an entry that names nothing.
 #[tactic(auto, unfolding(crate::specs::Checks::check_own_of, entries::specs::Refusals::refuse_if))]
-pub fn check_own(raw: Raw, kind: Kind, account: Account) -> Result<(), Refusal>
-    ensures { result ≡ check_own_of raw kind account }
+pub fn check_own(incoming: Incoming, account: Account) -> Result<(), Refusal>
+    ensures { result ≡ check_own_of incoming.raw incoming.kind account }
 {
+    let Incoming { raw, kind } = incoming;
     let before = raw.day < account.deposited.0;
     refuse_if(deposit_clash(kind, account.deposit), Refusal::DepositState)?;
     refuse_of(
@@ -68,9 +69,10 @@ pub fn check_own(raw: Raw, kind: Kind, account: Account) -> Result<(), Refusal>
 
 // 14 to 16 of an entry that names one of these particulars.
 #[tactic(auto, unfolding(entries::specs::Refusals::refuse_if))]
-fn check_named(raw: Raw, kind: Kind, named: Particulars) -> Result<(), Refusal>
-    ensures { result ≡ check_rows (named_rows raw kind named) }
+fn check_named(incoming: Incoming, named: Particulars) -> Result<(), Refusal>
+    ensures { result ≡ check_rows (named_rows incoming.raw incoming.kind named) }
 {
+    let Incoming { raw, kind } = incoming;
     let one_to_three = raw.b == 1 && named.phases == 3;
     let beyond = named.built.0 < raw.a;
     refuse_of(kind, Kind::AddedCustomer, one_to_three, Refusal::OnePhase)?;
@@ -80,9 +82,10 @@ fn check_named(raw: Raw, kind: Kind, named: Particulars) -> Result<(), Refusal>
 
 // 12, 13, 25 and 26, and then 14 to 16, of an entry that names one of a day and of these particulars.
 #[tactic(auto, unfolding(entries::specs::Refusals::refuse_if))]
-fn check_period(raw: Raw, kind: Kind, day: Day, named: Particulars) -> Result<(), Refusal>
-    ensures { result ≡ check_rows (period_rows raw kind «day» named) }
+fn check_period(incoming: Incoming, day: Day, named: Particulars) -> Result<(), Refusal>
+    ensures { result ≡ check_rows (period_rows incoming.raw incoming.kind «day» named) }
 {
+    let Incoming { raw, kind } = incoming;
     let end = years_on(day, period_years(kind)).0;
     let running = raw.day < end;
     let early = u32::from(raw.day) < next_reduction(named.reduced);
@@ -95,17 +98,18 @@ fn check_period(raw: Raw, kind: Kind, day: Day, named: Particulars) -> Result<()
     refuse_of(kind, Kind::Expiry, running, Refusal::PeriodRunning)?;
     refuse_of(kind, Kind::Reduction, early, Refusal::ReductionEarly)?;
     refuse_of(kind, Kind::Retention, running, Refusal::RetentionEarly)?;
-    check_named(raw, kind, named)
+    check_named(incoming, named)
 }
 
 // 8, for the kind of the named entry, 10 and 11, and then the others of an entry that names one.
 #[tactic(auto, unfolding(crate::specs::Checks::check_naming_of, entries::specs::Refusals::refuse_if))]
-pub fn check_naming(raw: Raw, kind: Kind, entry: Entry) -> Result<(), Refusal>
-    ensures { result ≡ check_naming_of raw kind entry }
+pub fn check_naming(incoming: Incoming, entry: Entry) -> Result<(), Refusal>
+    ensures { result ≡ check_naming_of incoming.raw incoming.kind entry }
 {
     let named = entry.data.particulars();
-    refuse_if(kind.misnames(named.kind), Refusal::NotOnChain)?;
-    refuse_if(raw.day < entry.day.0, Refusal::DayBefore)?;
+    let misnamed = incoming.kind.misnames(named.kind);
+    refuse_if(misnamed, Refusal::NotOnChain)?;
+    refuse_if(incoming.raw.day < entry.day.0, Refusal::DayBefore)?;
     refuse_if(named.closed, Refusal::Closed)?;
-    check_period(raw, kind, entry.day, named)
+    check_period(incoming, entry.day, named)
 }

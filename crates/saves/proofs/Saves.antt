@@ -11,7 +11,7 @@ use lib.Dec.{ltb}
 use borrow.Author.Tests.{lt-ltb, le-ltb}
 use borrow.Rule.Slice.PartMut.{put_mid}
 use Rattle.buffers.proofs.Buffers.{over_more}
-use Rattle.std.specs.Prelude.{Ok, Err}
+use Rattle.std.specs.Prelude.{Ok, Err, is_some}
 use Rattle.entries.specs.Refusals.{refusal_number, Check, decided_of}
 use Rattle.entries.specs.declared.refusals.Refusal.TheVariants as no
 use Rattle.entries.specs.declared.data.Entry.{Entry}
@@ -21,7 +21,6 @@ use Rattle.codec.specs.Headers.{header_of}
 use Rattle.codec.proofs.Records.{length_encode_all, encode_append}
 use Rattle.codec.proofs.Headers.{length_header}
 use Rattle.book.specs.Fresh.{entries_most}
-use Rattle.book.specs.Runs.{is_open}
 use Rattle.book.specs.declared.Book.{Book}
 use Rattle.saves.specs.Saves.{SaveReply, entry_record, entry_count, records_of, bytes_of, image_of, refused_save, accepted_save, check_save_of, save_of, saved_in}
 
@@ -71,16 +70,16 @@ length_image b h =
     )
 
 -- a run is open
-check_in_run : (b : Book) (l : List ℕ) → is_open b.run ≡ true → check_save_of b l ≡ Err no.SaveInRun
+check_in_run : (b : Book) (l : List ℕ) → is_some b.run ≡ true → check_save_of b l ≡ Err no.SaveInRun
 unfolding check_save_of
 check_in_run b l h = rw h refl
 
-pub save_in_run : (b : Book) (l : List ℕ) → is_open b.run ≡ true → (save_of b l ≡ refused_save 29) × (saved_in b l ≡ l)
+pub save_in_run : (b : Book) (l : List ℕ) → is_some b.run ≡ true → (save_of b l ≡ refused_save 29) × (saved_in b l ≡ l)
 unfolding save_of saved_in decided_of
 save_in_run b l h = (rw (check_in_run b l h) refl, rw (check_in_run b l h) refl)
 
 -- none is: the buffer's length decides
-pub save_no_run : (b : Book) (l : List ℕ) → is_open b.run ≡ false →
+pub save_no_run : (b : Book) (l : List ℕ) → is_some b.run ≡ false →
     (save_of b l ≡ cond (ltb (length l) (bytes_of b)) (refused_save 21) (accepted_save (bytes_of b))) ×
     (saved_in b l ≡ cond (ltb (length l) (bytes_of b)) l (image_of b ++ drop (bytes_of b) l))
 unfolding save_of saved_in decided_of check_save_of
@@ -93,13 +92,13 @@ save_no_run b l none = rw none (by (ltb (length l) (bytes_of b)))
     by false = (refl, refl)
 
 -- there is no room
-pub save_short : (b : Book) (l : List ℕ) → is_open b.run ≡ false → length l < bytes_of b → (save_of b l ≡ refused_save 21) × (saved_in b l ≡ l)
+pub save_short : (b : Book) (l : List ℕ) → is_some b.run ≡ false → length l < bytes_of b → (save_of b l ≡ refused_save 21) × (saved_in b l ≡ l)
 save_short b l none h =
     let by = save_no_run b l none in
     (rw (by.0, lt-ltb _ _ h) refl, rw (by.1, lt-ltb _ _ h) refl)
 
 -- there is: the header and the records are written
-pub save_done : (b : Book) (l m : List ℕ) (n : ℕ) → is_open b.run ≡ false → n ≡ entry_count b → record_bytes * (n + 1) ≤ length l →
+pub save_done : (b : Book) (l m : List ℕ) (n : ℕ) → is_some b.run ≡ false → n ≡ entry_count b → record_bytes * (n + 1) ≤ length l →
     m ≡ begun_of b n n ++ drop (record_bytes * (n + 1)) l → (accepted_save (record_bytes * (n + 1)) ≡ save_of b l) × (m ≡ saved_in b l)
 unfolding image_of
 save_done b l m n none e h k =

@@ -1,5 +1,5 @@
 -- A save: the entries as they were given, recovered from the book's, and their image.
-use Rattle.std.specs.Prelude.{ℕ, ◌+◌, ◌*◌, min, List, [], ◌∷◌, ◌++◌, map, length, take, drop, ltb, Result, Ok, Err}
+use Rattle.std.specs.Prelude.{ℕ, ◌+◌, ◌*◌, min, List, [], ◌∷◌, ◌++◌, map, length, take, drop, ltb, is_some, Result, Ok, Err}
 use Rattle.entries.specs.Refusals.{refusal_number, Check, Row, ◌⇒◌, check_rows, decided_of}
 use Rattle.entries.specs.declared.refusals.Refusal.{Refusal}
 use Rattle.entries.specs.declared.refusals.Refusal.TheVariants as no
@@ -8,7 +8,6 @@ use Rattle.codec.specs.Records.{record_bytes, encode_all}
 use Rattle.codec.specs.Headers.{header_of}
 use Rattle.codec.specs.declared.Record.{Record}
 use Rattle.book.specs.Fresh.{entries_most}
-use Rattle.book.specs.Runs.{is_open}
 use Rattle.book.specs.declared.Book.{Book}
 use Rattle.measures.specs.Cents.{cents}
 use Rattle.measures.specs.declared.Cents.{Cents}
@@ -93,7 +92,7 @@ save_reply_of (Ok n) = accepted_save n
 
 -- 29: a run is open; then 21: the buffer is shorter than the image
 abbrev pub save_rows : Book → List ℕ → List Row
-save_rows b buf = (is_open b.run ⇒ no.SaveInRun) ∷ (ltb (length buf) (bytes_of b) ⇒ no.BufferShort) ∷ []
+save_rows b buf = (is_some b.run ⇒ no.SaveInRun) ∷ (ltb (length buf) (bytes_of b) ⇒ no.BufferShort) ∷ []
 
 unfoldable pub check_save_of : Book → List ℕ → Check
 check_save_of b buf = check_rows (save_rows b buf)

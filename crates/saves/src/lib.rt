@@ -106,7 +106,7 @@ pub fn entry_count(count: u16) -> u16
 pub fn save(book: &Book, buf: &mut [u8]) -> SaveAnswer
     ensures { (save_reply_of result ≡ save_of book.now buf.old) × (buf.new ≡ saved_in book.now buf.old) }
 {
-    if book.run.is_open() {
+    if book.run.is_some() {
         return Err(Refusal::SaveInRun);
     }
     let entry_count = entry_count(book.count);

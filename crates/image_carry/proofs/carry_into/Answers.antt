@@ -17,13 +17,13 @@ returns-then-results-entries c =
     rw c.into-then-results-entries.ensures
     (carry_22 a.book a.entries.now a.results.now a.output.now c.if-entries-ne0.false c.if-results-entries.true)
 
-pub returns-then-is_open : goal.returns-then-is_open
+pub returns-then-is_some : goal.returns-then-is_some
 unfolding carry_given_of
-returns-then-is_open c =
+returns-then-is_some c =
     let a = c.args in
-    rw c.into-then-is_open.ensures
+    rw c.into-then-is_some.ensures
     (carry_29 a.book a.entries.now a.results.now a.output.now c.if-entries-ne0.false c.if-results-entries.false
-    (sym c.is_open.ensures ∙ c.if-is_open.true))
+    (sym c.is_some.ensures ∙ c.if-is_some.true))
 
 pub returns-then-too_short : goal.returns-then-too_short
 unfolding carry_given_of
@@ -31,14 +31,14 @@ returns-then-too_short c =
     let a = c.args in
     rw c.into-then-too_short.ensures
     (carry_21 a.book a.entries.now a.results.now a.output.now c.if-entries-ne0.false c.if-results-entries.false
-    (sym c.is_open.ensures ∙ c.if-is_open.false) (sym c.too_short.ensures ∙ c.if-too_short.true))
+    (sym c.is_some.ensures ∙ c.if-is_some.false) (sym c.too_short.ensures ∙ c.if-too_short.true))
 
 pub returns-in_err-save : goal.returns-in_err-save
 unfolding save_reply_of
 returns-in_err-save c =
     let a = c.args in
     absurd (carry_fits a.book a.entries.now a.results.now a.output.now c.if-entries-ne0.false c.if-results-entries.false
-    c.post_all.new.book _ (sym c.is_open.ensures ∙ c.if-is_open.false) c.post_all.ensures.book
+    c.post_all.new.book _ (sym c.is_some.ensures ∙ c.if-is_some.false) c.post_all.ensures.book
     (sym c.too_short.ensures ∙ c.if-too_short.false) (sym (ap save_reply_of c.in_err-save.was) ∙ c.save.ensures.0))
 
 pub returns : goal.returns

@@ -15,7 +15,7 @@ loop-n-preserved c =
       short = rw (second, first, c.text.ensures) (simp length-append (omega (arith, few)));
     }
 
-pub returns-clause-text : goal.returns-clause-text
-returns-clause-text c =
+pub returns : goal.returns
+returns c =
     rw (c.push-2.ensures.room (omega (arith, c.loop-n.invariant.short, c.requires)))
     (finished c.args.numbers.now c.loop-n.line _ c.loop-n.n-index (omega arith) c.loop-n.invariant.begun)

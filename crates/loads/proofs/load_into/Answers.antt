@@ -1,9 +1,8 @@
-use Rattle.std.proofs.Common.{refl, sym, ◌∙◌, ◌+◌, arith}
+use Rattle.std.proofs.Common.{sym, ap, ◌∙◌, arith, length, ⊎_elim}
 use Rattle.codec.proofs.Headers.{checked}
-use Rattle.loads.proofs.Loads.{load_refused, behind_begin, behind_few, record_stops, record_goes_on, none_left}
-use Rattle.codec.proofs.Records.{record_next, records_end}
 use Rattle.entries.specs.Refusals.{check_number}
-use Rattle.std.proofs.lemmas.Result.{err_from_is_err_and, IfOk-at_ok}
+use Rattle.loads.proofs.Loads.{load_refused, behind_begin, behind_few, record_stops, record_goes_on, none_left}
+use Rattle.std.proofs.lemmas.Result.{err_from_is_err_and}
 use Rattle.loads.proofs.load_into.Goals as goal
 
 pub slice_bounds-records_in-count : goal.slice_bounds-records_in-count
@@ -12,14 +11,14 @@ slice_bounds-records_in-count c = (checked c.args.image.now (sym c.check.ensures
 pub slice_bounds-records_in-start : goal.slice_bounds-records_in-start
 slice_bounds-records_in-start c = omega (arith, (checked c.args.image.now (sym c.check.ensures ∙ c.in_ok-check.was)).low)
 
-pub loop-i-init : goal.loop-i-init
-loop-i-init c =
+pub loop-number-init : goal.loop-number-init
+loop-number-init c =
     let passed = sym c.check.ensures ∙ c.in_ok-check.was in
-    record {
-      few = behind_few c.args.image.now c.records_in-records.result.now passed c.records_in-records.ensures;
-      within = omega arith;
+    let few = behind_few c.args.image.now c.records_in-records.result.now passed c.records_in-records.ensures in
+    rw (c.into_iter-number-iterator.ensures.into_iter_gives, c.zip-number-items.ensures.first, c.zip-number-items.ensures.second.0) (record {
+      few = omega (arith, few);
       loads = behind_begin c.args.image.now c.records_in-records.result.now passed c.records_in-records.ensures c.args.book.now c.requires;
-    }
+    })
 
 pub returns-in_err-check : goal.returns-in_err-check
 returns-in_err-check c =
@@ -29,24 +28,25 @@ returns-in_err-check c =
 pub returns-in-Err : goal.returns-in-Err
 unfolding check_number
 returns-in-Err c =
-    let l = c.loop-i in
-    sym (record_stops _ _ c.decode.result l.book (l.i + 1) c.in-Err.refusal (record_next _ _ l.i _ refl c.loop-i-test.true c.decode.ensures)
-    (sym c.record.ensures.number ∙ rw c.in-Err.is refl)) ∙ l.invariant.loads
+    let l = c.loop-number in
+    let (number, rest) = c.in-Some.ensures.steps in
+    rw number.0 (sym (record_stops l.book _ rest c.decode.ensures c.in-Err.refusal c.in-Err.ensures.number) ∙ l.invariant.loads)
 
-pub loop-i-preserved : goal.loop-i-preserved
+pub loop-number-preserved : goal.loop-number-preserved
 unfolding check_number
-loop-i-preserved c =
-    let l = c.loop-i in
+loop-number-preserved c =
+    let l = c.loop-number in
+    let (number, rest) = c.in-Some.ensures.steps in
     record {
-      few = l.invariant.few;
-      within = omega arith;
+      few = omega (arith, number, ap length rest, l.invariant.few);
       loads =
-          rw (IfOk-at_ok _ c.in_default.is c.record.ensures.ok)
-          (sym (record_goes_on _ _ c.decode.result l.book (l.i + 1) (record_next _ _ l.i _ refl c.loop-i-test.true c.decode.ensures)
-          (sym c.record.ensures.number ∙ rw c.in_default.is refl)) ∙ l.invariant.loads);
+          rw (number.1, number.0, c.in_default.ensures.ok)
+          (sym (record_goes_on l.book _ rest c.decode.ensures c.in_default.ensures.number) ∙ l.invariant.loads);
     }
 
 pub returns : goal.returns
 returns c =
-    let l = c.loop-i in
-    sym (none_left _ l.book (l.i + 1) (records_end _ _ l.i refl c.loop-i-test.false)) ∙ l.invariant.loads
+    let l = c.loop-number in
+    ⊎_elim (λ numbers. absurd (omega (arith, numbers.1.0, l.invariant.few)))
+    (λ records. sym (none_left _ l.book _ records.1.0) ∙ l.invariant.loads)
+    c.in-None.ensures.steps

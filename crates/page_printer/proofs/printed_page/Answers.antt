@@ -29,6 +29,6 @@ pub returns-in-Err : goal.returns-in-Err
 unfolding page_given_of
 returns-in-Err c =
     let r = given_refusal (load_of c.args.image.now) c.args.account c.page_answer.new.output c.in-Err.fault c.in-Err.ensures in
-    let line = c.refused_line.ensures.text in
+    let line = c.refused_line.ensures in
     let pushed = c.push-in-Err.ensures.room (rw c.new-text.ensures (omega (arith, c.as_slice.ensures.room))) in
-    rw (pushed, c.new-text.ensures, c.as_slice.ensures.bytes, line, c.from.ensures, c.from-number.ensures, c.from-in-Err.ensures, r)
+    rw (pushed, c.new-text.ensures, c.as_slice.ensures.bytes, line, c.from.ensures, c.from-number.ensures, c.from-in-Err.ensures, c.record_number.ensures, r)

@@ -15,7 +15,7 @@ loop-account-preserved c =
           record {
             lines =
                 w.text-is ∙ pushed ∙
-                (rw (w.as_slice.ensures.bytes, w.account_line.ensures.text, next)
+                (rw (w.as_slice.ensures.bytes, w.account_line.ensures, next)
                 (lines_more b l.account l.text w.from-r.result (omega arith) (rw c.account.ensures at w.if-account-ne0.true)
                 (w.from-r.ensures ∙ w.statement.ensures) l.invariant.lines));
             short = rw (w.text-is, pushed) (simp length-append (omega (arith, w.as_slice.ensures.room)));
@@ -33,4 +33,4 @@ returns c =
     let l = c.loop-account in
     let all : l.account - 1 ≡ accounts_most = omega arith in
     let pushed = c.push-2.ensures.room (omega (arith, c.as_slice-2.ensures.room, l.invariant.short)) in
-    rw (pushed, c.as_slice-2.ensures.bytes, c.end_line.ensures.text, c.from.ensures, l.invariant.lines, all)
+    rw (pushed, c.as_slice-2.ensures.bytes, c.end_line.ensures, c.from.ensures, l.invariant.lines, all)

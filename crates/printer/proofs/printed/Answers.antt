@@ -13,8 +13,9 @@ returns-in-Err c =
       pushed,
       c.new-text.ensures,
       c.as_slice.ensures.bytes,
-      c.refused_line.ensures.text,
+      c.refused_line.ensures,
       c.from.ensures,
       c.from-in-Err.ensures,
       c.from-number.ensures,
+      c.record_number.ensures,
     )

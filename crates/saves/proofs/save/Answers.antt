@@ -5,16 +5,16 @@ use Rattle.saves.specs.Saves.{save_reply_of}
 use Rattle.saves.proofs.Saves.{save_in_run, save_short, save_step, save_done}
 use Rattle.saves.proofs.save.Goals as goal
 
-pub returns-then-is_open : goal.returns-then-is_open
+pub returns-then-is_some : goal.returns-then-is_some
 unfolding save_reply_of
-returns-then-is_open c =
-    let left = save_in_run c.args.book.now c.args.buf.now (sym c.is_open.ensures ∙ c.if-is_open.true) in
+returns-then-is_some c =
+    let left = save_in_run c.args.book.now c.args.buf.now (sym c.is_some.ensures ∙ c.if-is_some.true) in
     (sym left.0, sym left.1)
 
 pub returns-then-buf-total : goal.returns-then-buf-total
 unfolding save_reply_of
 returns-then-buf-total c =
-    let left = save_short c.args.book.now c.args.buf.now (sym c.is_open.ensures ∙ c.if-is_open.false) (omega arith) in
+    let left = save_short c.args.book.now c.args.buf.now (sym c.is_some.ensures ∙ c.if-is_some.false) (omega arith) in
     (sym left.0, sym left.1)
 
 pub loop-i-preserved : goal.loop-i-preserved
@@ -34,5 +34,5 @@ returns c =
     let n = c.from-count in
     let l = c.loop-i in
     let e : l.i ≡ n.result = omega arith in
-    save_done a.book.now a.buf.now l.buf n.result (sym c.is_open.ensures ∙ c.if-is_open.false) (n.ensures ∙ c.entry_count-entry_count.ensures.0) (omega arith)
+    save_done a.book.now a.buf.now l.buf n.result (sym c.is_some.ensures ∙ c.if-is_some.false) (n.ensures ∙ c.entry_count-entry_count.ensures.0) (omega arith)
     (rw e at l.invariant)

@@ -11,6 +11,6 @@ returns c =
     let first = c.push.ensures.room (rw c.new-row.ensures (omega (arith, wide))) in
     let second = c.push-2.ensures.room (rw (first, c.new-row.ensures) (omega (arith, wide))) in
     let third = c.push-3.ensures.room (rw (second, first, c.new-row.ensures) (simp length-append (omega (arith, wide)))) in
-    let few = decimal_text.fewest 2 c.args.account (omega arith) in
+    let few = decimal_text.fewest 2 c.args.account.number (omega (arith, c.args.account.three_digits)) in
     let text = c.last.ensures.columns ∙ last_right 3 c.number.result (rw (c.number.ensures.text, c.from.ensures) few) (omega arith) in
     rw (c.whole.ensures, third, second, first, c.new-row.ensures, text, c.number.ensures.text, c.from.ensures)
