@@ -22,7 +22,7 @@ use measures::{Cents, Day};
 use rules::{Accepted, Account, PostingAnswer, paid_within};
 
 // The last serial of each node, 0 where it has none.
-#[derive(Clone, Copy)]
+#[derive(Clone, Copy, Default)]
 pub struct Serials {
     pub node_1: u32,
     pub node_2: u32,
@@ -111,10 +111,11 @@ pub fn slot(account: u16) -> usize
     ensures { result ≡ slot_of account }
 {
     let a = usize::from(account);
-    if a == 0 {
-        return 0;
+    if (1..=Book::ACCOUNTS).contains(&a) {
+        a - 1
+    } else {
+        0
     }
-    if a <= Book::ACCOUNTS { a - 1 } else { 0 }
 }
 
 // Whether a chain ends at a link.
@@ -142,6 +143,37 @@ impl Iterator for Chain<'_> {
         self.at = entry.next;
         self.left -= 1;
         Some(Link { place, entry })
+    }
+}
+
+impl Chain<'_> {
+    // The first entry that is the one of a name.
+    pub fn search(mut self, name: Name) -> Option<Link>
+        ensures { found_by result ≡ sought_in (carries name) (links_of self.entry) }
+    {
+        self.find(|link| link.entry.carries(name))
+    }
+
+    // The payments that a reduction of a day counts.
+    #[tactic(auto, unfolding(crate::specs::Chain::paid_over))]
+    fn paid(self, day: u16) -> Cents
+        ensures { result ≡ paid_over «day» (cents 0) (links_of self.entry) }
+    {
+        let mut paid = Cents(0);
+        for link in self {
+            paid = paid.plus(paid_within(link.entry, day));
+        }
+        paid
+    }
+
+    // The entry that another names.
+    fn lookup(self, raw: Raw) -> Found
+        ensures { result ≡ sought_in (points_at raw) (links_of self.entry) }
+    {
+        match self.search(raw.named()) {
+            Some(link) => Found::At(link),
+            None => Found::Nothing,
+        }
     }
 }
 
@@ -178,10 +210,7 @@ impl Book {
             accounts: [account; Book::ACCOUNTS],
             entries: [entry; Book::ENTRIES],
             count: 0,
-            last: Serials {
-                node_1: 0,
-                node_2: 0,
-            },
+            last: Serials::default(),
             run: None,
         }
     }
@@ -202,35 +231,6 @@ impl Book {
             entries: &self.entries,
             at: newest,
             left: Book::ENTRIES as u16,
-        }
-    }
-
-    // The first entry of a chain that is the one of a name.
-    pub fn search(&self, newest: u16, name: Name) -> Option<Link>
-        ensures { found_by result ≡ sought_in (carries name) (walk_of self.now.entries entries_most newest) }
-    {
-        self.chain(newest).find(|link| link.entry.carries(name))
-    }
-
-    // The payments of a chain that a reduction of a day counts.
-    #[tactic(auto, unfolding(crate::specs::Chain::paid_over))]
-    fn paid(&self, newest: u16, day: u16) -> Cents
-        ensures { result ≡ paid_over «day» (cents 0) (walk_of self.now.entries entries_most newest) }
-    {
-        let mut paid = Cents(0);
-        for link in self.chain(newest) {
-            paid = paid.plus(paid_within(link.entry, day));
-        }
-        paid
-    }
-
-    // The entry that another names, on an account whose newest entry has a number.
-    fn lookup(&self, raw: Raw, newest: u16) -> Found
-        ensures { result ≡ sought_in (points_at raw) (walk_of self.now.entries entries_most newest) }
-    {
-        match self.search(newest, raw.named()) {
-            Some(link) => Found::At(link),
-            None => Found::Nothing,
         }
     }
 
@@ -273,11 +273,12 @@ impl Book {
         if !incoming.kind.names() {
             return own_decision(incoming, account);
         }
-        let Found::At(link) = self.lookup(raw, account.newest) else {
+        let chain = self.chain(account.newest);
+        let Found::At(link) = chain.lookup(raw) else {
             return Err(Refusal::NotOnChain);
         };
         let paid = if incoming.kind == Kind::Reduction {
-            self.paid(account.newest, raw.day)
+            chain.paid(raw.day)
         } else {
             Cents(0)
         };

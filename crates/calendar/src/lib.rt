@@ -12,7 +12,7 @@ use measures::Day;
 use std::fmt;
 
 // January is month 1.
-#[derive(Clone, Copy, PartialEq, Eq, PartialOrd, Ord, Debug)]
+#[derive(Clone, Copy, PartialEq, Eq, PartialOrd, Ord, Debug, Default)]
 pub struct Date {
     pub year: u16,
     pub month: u8,
@@ -102,11 +102,7 @@ pub fn date_of(day: Day) -> Date
     ensures { result ≡ date_of day.0 }
 {
     if Day::LAST < day.0 {
-        return Date {
-            year: 0,
-            month: 0,
-            day: 0,
-        };
+        return Date::default();
     }
     let index = year_of(day);
     let year = 2000 + index as u16;

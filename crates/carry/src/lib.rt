@@ -5,8 +5,7 @@ ghost use Rattle.std.specs.Prelude.{◌≡◌};
 ghost use Rattle.carry.specs.Carry.{carried_reply, carry_of, carry_results_of};
 
 use book::{Book, Next};
-use entries::{Raw, Refusal};
-use rules::PostingReply;
+use entries::{Raw, Refusal, refusal_of};
 
 // The next book beside the answer.
 pub type Carried = Next<Result<(), Refusal>>;
@@ -20,8 +19,7 @@ pub fn carry_over(mut book: Book, entries: &[Raw], results: &mut [u8]) -> Carrie
         return Next { book, answer };
     }
     for (i, raw) in entries.iter().enumerate() {
-        let reply = PostingReply::from(book.offer(*raw));
-        results[i] = reply.refusal;
+        results[i] = refusal_of(&book.offer(*raw));
     }
     Next {
         book,

@@ -104,7 +104,7 @@ fn contribution(raw: Raw, account: Account) -> Change
         added: 0,
         closed: false,
     };
-    Change::alone(account, data, Amounts::NONE)
+    Change::alone(account, data, Amounts::default())
 }
 
 // 2: the refund is credited; what is left over is paid out.
@@ -127,7 +127,7 @@ fn added_customer(raw: Raw, account: Account, link: Link) -> Change
     let amounts = Amounts {
         settled,
         paid_out: left,
-        ..Amounts::NONE
+        ..Amounts::default()
     };
     let after = named.refunded(back, settled, left);
     Change::naming(account, data, link, after, amounts)
@@ -147,7 +147,7 @@ fn bill(raw: Raw, account: Account) -> Change
         standing,
         corrected: false,
     };
-    Change::alone(account.charged(standing), data, Amounts::NONE)
+    Change::alone(account.charged(standing), data, Amounts::default())
 }
 
 // 4: credited; what is left over is added to credit.
@@ -168,7 +168,7 @@ fn payment(raw: Raw, account: Account) -> Change
     };
     let amounts = Amounts {
         settled,
-        ..Amounts::NONE
+        ..Amounts::default()
     };
     Change::alone(account.plus_credit(left), data, amounts)
 }
@@ -181,7 +181,7 @@ fn deposit(raw: Raw, account: Account) -> Change
     let amount = raw.cents();
     let rate = raw.a;
     let after = account.with_deposit(amount, u64::from(rate), Day(raw.day));
-    Change::alone(after, Data::Deposit { amount, rate }, Amounts::NONE)
+    Change::alone(after, Data::Deposit { amount, rate }, Amounts::default())
 }
 
 // 6: deposit and interest are credited together; what is left over is paid out; deposit held = 0.
@@ -200,7 +200,7 @@ fn deposit_return(raw: Raw, account: Account) -> Change
         settled,
         paid_out: left,
         interest,
-        ..Amounts::NONE
+        ..Amounts::default()
     };
     let after = account.with_deposit(Cents(0), 0, Day(0));
     Change::alone(after, Data::DepositReturn, amounts)
@@ -215,7 +215,7 @@ fn expiry(raw: Raw, account: Account, link: Link) -> Change
     let data = Data::Expiry(raw.named());
     let amounts = Amounts {
         retained: named.particulars().held,
-        ..Amounts::NONE
+        ..Amounts::default()
     };
     Change::naming(account, data, link, named.expired(), amounts)
 }
@@ -246,7 +246,7 @@ fn correction(raw: Raw, account: Account, link: Link) -> Change
     };
     let amounts = Amounts {
         settled,
-        ..Amounts::NONE
+        ..Amounts::default()
     };
     let after = named.restated(amount);
     Change::naming(account.plus_credit(left), data, link, after, amounts)
@@ -264,7 +264,7 @@ fn guarantee(raw: Raw, account: Account) -> Change
         amount,
         held: amount,
     };
-    Change::alone(account.with_guarantee(true), data, Amounts::NONE)
+    Change::alone(account.with_guarantee(true), data, Amounts::default())
 }
 
 // 10: what is given back is credited; what is left over is paid out. `paid` is the sum of the payments in the reduction's window.
@@ -283,7 +283,7 @@ fn reduction(raw: Raw, account: Account, paid: Cents, link: Link) -> Change
     let amounts = Amounts {
         settled,
         paid_out: left,
-        ..Amounts::NONE
+        ..Amounts::default()
     };
     let after = named.reduced(back, Day(raw.day));
     Change::naming(account, data, link, after, amounts)
@@ -298,7 +298,7 @@ fn retention(raw: Raw, account: Account, link: Link) -> Change
     let data = Data::Retention(raw.named());
     let amounts = Amounts {
         retained: named.particulars().guarantee_held,
-        ..Amounts::NONE
+        ..Amounts::default()
     };
     let after = account.with_guarantee(false);
     Change::naming(after, data, link, named.retained(), amounts)
@@ -313,7 +313,7 @@ fn late_charge(raw: Raw, account: Account) -> Change
     Change::alone(
         account.charged(amount),
         Data::LateCharge(amount),
-        Amounts::NONE,
+        Amounts::default(),
     )
 }
 

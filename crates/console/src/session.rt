@@ -1,11 +1,10 @@
 // What lasts from line to line, and the calls: each writes its letter and the numbers of its answer as a line.
-ghost use Rattle.std.specs.Prelude.{◌<◌, ◌≡◌, MatchResult};
-ghost use Rattle.entries.specs.Refusals.{refusal_number};
+ghost use Rattle.std.specs.Prelude.{◌<◌};
 
 use arrayvec::ArrayVec;
-use book::Book;
+use book::{Book, Next};
 use carry::carry_over;
-use entries::{Raw, Refusal};
+use entries::{Raw, Refusal, refusal_of};
 use loads::load;
 use pages::page;
 use queries::{ContributionReply, StatementReply, contribution_query, statement};
@@ -32,16 +31,6 @@ pub struct Session<'a, P: Print> {
     buffer: [u8; BUFFER],
     // The lines read.
     lines: u64,
-}
-
-// An answer's refusal number, 0 where it is accepted.
-fn refusal_of<T>(answer: &Result<T, Refusal>) -> u8
-    ensures { MatchResult answer.now (λ _. result ≡ 0) (λ refusal. result ≡ refusal_number refusal) }
-{
-    match answer {
-        Ok(_) => 0,
-        Err(refusal) => u8::from(*refusal),
-    }
 }
 
 impl<'a, P: Print> Session<'a, P> {
@@ -119,10 +108,11 @@ impl<'a, P: Print> Session<'a, P> {
         &self.books[self.place()]
     }
 
-    // After a call that changes it.
-    fn keep(&mut self, book: Book) {
+    // Keeps the next book of a call that changes it, and gives the answer.
+    fn keep<A>(&mut self, next: Next<A>) -> A {
         let at = self.place();
-        self.books[at] = book;
+        self.books[at] = next.book;
+        next.answer
     }
 
     fn turn(&mut self, number: BookNumber) -> io::Result<()> {
@@ -147,12 +137,12 @@ impl<'a, P: Print> Session<'a, P> {
     // The list is empty afterwards.
     fn carry_over(&mut self, places: Places) -> io::Result<()> {
         let mut results = [255; PLACES];
-        let results = &mut results[..places.count];
+        let results = &mut results[..places.number];
         let list = self.list.as_slice();
         let carried = carry_over(*self.book(), list, results);
-        self.keep(carried.book);
+        let answer = self.keep(carried);
         self.list.clear();
-        println!(self.rt; "o {}{}", refusal_of(&carried.answer), Spaced(results))
+        println!(self.rt; "o {}{}", refusal_of(&answer), Spaced(results))
     }
 
     fn statement(&self, account: u16, allowance: u64) -> io::Result<()> {
@@ -189,20 +179,19 @@ impl<'a, P: Print> Session<'a, P> {
 
     fn page(&mut self, account: u16, room: Room) -> io::Result<()> {
         let book = *self.book();
-        let answer = page(&book, account, &mut self.buffer[..room.size]);
+        let answer = page(&book, account, &mut self.buffer[..room.number]);
         println!(self.rt; "g {} {}", refusal_of(&answer), answer.unwrap_or(0))
     }
 
     fn save(&mut self, room: Room) -> io::Result<()> {
         let book = *self.book();
-        let answer = save(&book, &mut self.buffer[..room.size]);
+        let answer = save(&book, &mut self.buffer[..room.number]);
         println!(self.rt; "w {} {}", refusal_of(&answer), answer.unwrap_or(0))
     }
 
     fn load(&mut self, room: Room) -> io::Result<()> {
-        let loaded = load(&self.buffer[..room.size]);
-        self.keep(loaded.book);
-        let (refusal, record) = match loaded.answer {
+        let loaded = load(&self.buffer[..room.number]);
+        let (refusal, record) = match self.keep(loaded) {
             Ok(()) => (0, 0),
             Err(fault) => (fault.refusal.into(), fault.record_number()),
         };
@@ -211,20 +200,20 @@ impl<'a, P: Print> Session<'a, P> {
 
     fn open_run(&mut self, node: u8, day: u16, rate: u16) -> io::Result<()> {
         let ran = open_run(*self.book(), node, day, rate);
-        self.keep(ran.book);
-        self.tell_run('r', ran.answer)
+        let answer = self.keep(ran);
+        self.tell_run('r', answer)
     }
 
     fn step(&mut self) -> io::Result<()> {
         let posted = step(*self.book());
-        self.keep(posted.book);
-        self.tell_posting('t', posted.answer)
+        let answer = self.keep(posted);
+        self.tell_posting('t', answer)
     }
 
     fn close_run(&mut self) -> io::Result<()> {
         let ran = close_run(*self.book());
-        self.keep(ran.book);
-        self.tell_run('c', ran.answer)
+        let answer = self.keep(ran);
+        self.tell_run('c', answer)
     }
 
     fn set(&mut self, change: &Change) -> io::Result<()> {

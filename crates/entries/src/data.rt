@@ -6,16 +6,17 @@ use crate::kinds::Kind;
 use measures::{Cents, Day, Metres};
 
 // The pair by which one entry names another: the node that wrote it, and its serial there.
-#[derive(Clone, Copy, Debug, PartialEq, Eq)]
+#[derive(Clone, Copy, Debug, Default, PartialEq, Eq)]
 pub struct Name {
     pub node: u8,
     pub serial: u32,
 }
 
 // What was posted and what became of it, by kind. The case is the kind.
-#[derive(Clone, Copy)]
+#[derive(Clone, Copy, Default)]
 pub enum Data {
     // Of a place of the book's array that has no entry yet.
+    #[default]
     Unused,
     // The short fields come first, which makes an entry 72 bytes and not 80.
     Contribution {
@@ -69,7 +70,7 @@ pub enum Data {
     LateCharge(Cents),
 }
 
-#[derive(Clone, Copy)]
+#[derive(Clone, Copy, Default)]
 pub struct Entry {
     pub node: u8,
     pub account: u16,
@@ -82,7 +83,7 @@ pub struct Entry {
 }
 
 // What the rules and the queries read of an entry. A field that its kind does not have is zero or false.
-#[derive(Clone, Copy)]
+#[derive(Clone, Copy, Default)]
 pub struct Particulars {
     pub kind: Kind,
     pub amount: Cents,
@@ -99,21 +100,6 @@ pub struct Particulars {
 }
 
 impl Particulars {
-    // Of no entry: every figure zero or false.
-    const NONE: Particulars = Particulars {
-        kind: Kind::Unknown,
-        amount: Cents(0),
-        built: Metres(0),
-        phases: 0,
-        held: Cents(0),
-        added: 0,
-        closed: false,
-        standing: Cents(0),
-        corrected: false,
-        guarantee_held: Cents(0),
-        reduced: Day(0),
-    };
-
     // The standing amount of an entry that counts, and 0 of another.
     #[tactic(auto, unfolding(crate::specs::Data::standing_if))]
     pub fn standing_if(self, counts: bool) -> Cents
@@ -167,7 +153,7 @@ impl Data {
     {
         let kind_alone = Particulars {
             kind: self.kind(),
-            ..Particulars::NONE
+            ..Particulars::default()
         };
         match self {
             Data::Contribution {
@@ -311,21 +297,18 @@ impl Entry {
     pub fn unused() -> Entry
         ensures { result ≡ no_entry }
     {
-        Entry {
-            node: 0,
-            account: 0,
-            day: Day(0),
-            serial: 0,
-            next: 0,
-            data: Data::Unused,
-        }
+        Entry::default()
     }
 
     // Whether it is the one of a name.
     pub fn carries(self, name: Name) -> bool
         ensures { result ≡ carries name self }
     {
-        self.node == name.node && self.serial == name.serial
+        let own = Name {
+            node: self.node,
+            serial: self.serial,
+        };
+        own == name
     }
 
     // The entry with other data of its kind.

@@ -4,6 +4,7 @@ ghost use Rattle.entries.specs.Kinds.{names_of};
 ghost use Rattle.entries.specs.Ranges.{named_fits, in_range_of};
 ghost use Rattle.entries.specs.Arrivals.{incoming_of};
 
+use crate::data::Name;
 use crate::kinds::Kind;
 use crate::raw::Raw;
 
@@ -36,7 +37,7 @@ impl Incoming {
         if self.kind.names() {
             (1..=2).contains(&named.node) && 1 <= named.serial
         } else {
-            named.node == 0 && named.serial == 0
+            named == Name::default()
         }
     }
 

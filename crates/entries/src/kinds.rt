@@ -6,8 +6,9 @@ ghost use Rattle.entries.specs.Ranges.{b_fits, limits_of};
 use std::ops::RangeInclusive;
 
 // The documents' kinds 1 to 12 in their order, after a case for every other number, so that each number has a kind: 1 refuses that case.
-#[derive(Clone, Copy, Debug, PartialEq, Eq)]
+#[derive(Clone, Copy, Debug, Default, PartialEq, Eq)]
 pub enum Kind {
+    #[default]
     Unknown = 0,
     Contribution = 1,
     AddedCustomer = 2,

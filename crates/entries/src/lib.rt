@@ -13,4 +13,4 @@ pub use data::{Data, Entry, Name, Particulars, one_more};
 pub use incoming::Incoming;
 pub use kinds::{BRange, Kind, Limits};
 pub use raw::Raw;
-pub use refusals::{Refusal, refuse_if};
+pub use refusals::{Refusal, refusal_of, refuse_if};

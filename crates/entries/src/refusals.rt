@@ -1,5 +1,5 @@
 // The refusals of every call, and rules that refuse.
-ghost use Rattle.std.specs.Prelude.{◌≡◌};
+ghost use Rattle.std.specs.Prelude.{◌≡◌, MatchResult};
 ghost use Rattle.entries.specs.Refusals.{refusal_number, refuse_if};
 
 // One case for each of the documents' numbers.
@@ -43,6 +43,16 @@ impl From<Refusal> for u8 {
 
     fn from(refusal: Refusal) -> u8 {
         refusal as u8
+    }
+}
+
+// An answer's refusal number, 0 where it is accepted.
+pub fn refusal_of<T>(answer: &Result<T, Refusal>) -> u8
+    ensures { MatchResult answer.now (λ _. result ≡ 0) (λ refusal. result ≡ refusal_number refusal) }
+{
+    match answer {
+        Ok(_) => 0,
+        Err(refusal) => u8::from(*refusal),
     }
 }
 

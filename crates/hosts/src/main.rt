@@ -91,11 +91,7 @@ impl<'a, P: Print> Host<'a, P> {
         if at < ROOM {
             memory[at] = byte;
         }
-        Host {
-            rt: self.rt,
-            memory,
-            length: self.length,
-        }
+        Host { memory, ..*self }
     }
 
     fn image(&self) -> &[u8] {

@@ -1,5 +1,5 @@
 -- A carry-over of entries into an image.
-use Rattle.std.specs.Prelude.{ℕ, ◌+◌, ◌/◌, ◌%◌, cond, List, [], ◌∷◌, map, length, set, eqb, Result, Ok, Err}
+use Rattle.std.specs.Prelude.{ℕ, ◌+◌, ◌/◌, ◌%◌, cond, List, [], ◌∷◌, map, length, set, eqb}
 use Rattle.entries.specs.Refusals.{refusal_number}
 use Rattle.entries.specs.declared.refusals.Refusal.TheVariants as no
 use Rattle.entries.specs.declared.raw.Raw.{Raw}
@@ -8,25 +8,20 @@ use Rattle.book.specs.Posting.{posts_of}
 use Rattle.book.specs.declared.Book.{Book}
 use Rattle.carry.specs.Carry.{carry_refusal_of, carry_results_of}
 use Rattle.saves.specs.Saves.{bytes_of, save_of, saved_in}
-use Rattle.loads.specs.Loaded.{LoadedReply, record_number, raw_in}
-use Rattle.loads.specs.declared.Fault.{Fault}
+use Rattle.loads.specs.Given.{bytes_given}
+use Rattle.loads.specs.Loaded.{LoadedReply, raw_in}
+use Rattle.loads.specs.declared.given.BytesGiven.{BytesGiven}
 use Rattle.entries.specs.Order.{first_refusal}
-use Rattle.image_carry.specs.declared.CarryGiven.{CarryGiven}
 
-abbrev pub refused_carry : ℕ → ℕ → CarryGiven
-refused_carry n faulty = record { refusal = n; «record» = faulty; bytes = 0 }
+abbrev pub refused_carry : ℕ → ℕ → BytesGiven
+refused_carry n faulty = bytes_given n faulty 0
 
-abbrev pub accepted_carry : ℕ → CarryGiven
-accepted_carry bytes = record { refusal = 0; «record» = 0; bytes = bytes }
-
--- an answer with the record at fault as what is given
-unfoldable pub carry_given_of : Result ℕ Fault → CarryGiven
-carry_given_of (Err f) = refused_carry (refusal_number f.refusal) (record_number f)
-carry_given_of (Ok n) = accepted_carry n
+abbrev pub accepted_carry : ℕ → BytesGiven
+accepted_carry bytes = bytes_given 0 0 bytes
 
 -- what a carry-over gives, and its result list and output at the end
 pub record CarryExit : Type 0 where
-  pub given : CarryGiven
+  pub given : BytesGiven
   pub results : List ℕ
   pub output : List ℕ
 

@@ -4,46 +4,19 @@
 ghost use Rattle.std.specs.Prelude.{◌≡◌, ◌+◌, ◌≤◌, min, set, ltb};
 ghost use Rattle.book.specs.Fresh.{entries_most};
 ghost use Rattle.saves.specs.Saves.{bytes_of};
+ghost use Rattle.loads.specs.Given.{bytes_given_of};
 ghost use Rattle.loads.specs.Loads.{load_of};
 ghost use Rattle.carry.specs.Carry.{refusals_of};
-ghost use Rattle.image_carry.specs.Carries.{read_entries, next_of, put_all, carry_given_of, carry_into, carry_image};
+ghost use Rattle.image_carry.specs.Carries.{read_entries, next_of, put_all, carry_into, carry_image};
 
 use book::{Book, Next};
 use codec::{RECORD, Record, records_in};
-use entries::Refusal;
-use loads::{Fault, load};
-use rules::PostingReply;
+use entries::{Refusal, refusal_of};
+use loads::{BytesGiven, Fault, load};
 use saves::{entry_count, save};
 
-#[repr(C)]
-#[derive(Clone, Copy)]
-pub struct CarryGiven {
-    pub refusal: u8,
-    // The image's record at fault, 0 where none is.
-    pub record: u16,
-    // The length of the image written.
-    pub bytes: usize,
-}
-
-impl From<Result<usize, Fault>> for CarryGiven {
-    ghost from_gives = { λ answer given. given ≡ carry_given_of answer };
-
-    #[tactic(auto, unfolding(crate::specs::Carries::carry_given_of))]
-    fn from(answer: Result<usize, Fault>) -> CarryGiven {
-        match answer {
-            Err(fault) => CarryGiven {
-                refusal: fault.refusal.into(),
-                record: fault.record_number(),
-                bytes: 0,
-            },
-            Ok(bytes) => CarryGiven {
-                refusal: 0,
-                record: 0,
-                bytes,
-            },
-        }
-    }
-}
+// What the exported call gives.
+pub type CarryGiven = BytesGiven;
 
 // The most entries that an image can have after so many more.
 fn most_after(count: u16, more: usize) -> usize
@@ -69,8 +42,8 @@ fn post_all(book: &mut Book, entries: &[u8], results: &mut [u8])
     ensures results { results.new ≡ put_all results.old 0 (refusals_of book.old (read_entries entries.now)) }
 {
     for (i, bytes) in records_in(entries).iter().enumerate() {
-        let reply = PostingReply::from(book.offer(Record::decode(bytes).raw));
-        put_result(results, i, reply.refusal);
+        let answer = book.offer(Record::decode(bytes).raw);
+        put_result(results, i, refusal_of(&answer));
     }
 }
 
@@ -88,14 +61,14 @@ fn too_short(mut book: Book, entries: &[u8], length: usize) -> bool
 }
 
 // A carry-over into a book, which is then saved: the bytes written.
-#[tactic(auto, unfolding(saves::specs::Saves::save_reply_of, crate::specs::Carries::carry_given_of))]
+#[tactic(auto, unfolding(saves::specs::Saves::save_reply_of, loads::specs::Given::bytes_given_of))]
 fn carry_into(
     mut book: Book,
     entries: &[u8],
     results: &mut [u8],
     output: &mut [u8],
 ) -> Result<usize, Fault>
-    ensures { (record { given = carry_given_of result; results = results.new; output = output.new }) ≡ carry_into book entries.now results.old output.old }
+    ensures { (record { given = bytes_given_of result; results = results.new; output = output.new }) ≡ carry_into book entries.now results.old output.old }
 {
     if entries.len() % RECORD != 0 {
         return Err(Refusal::ImageLength.into());
@@ -114,14 +87,14 @@ fn carry_into(
 }
 
 // A carry-over into the book of an image.
-#[tactic(auto, using(entries::proofs::RefusalsLaws::is_refusal), unfolding(loads::specs::Loaded::loaded_reply, crate::specs::Carries::carry_given_of, crate::specs::Carries::carry_image))]
+#[tactic(auto, using(entries::proofs::RefusalsLaws::is_refusal), unfolding(loads::specs::Loaded::loaded_reply, loads::specs::Given::bytes_given_of, crate::specs::Carries::carry_image))]
 fn carry_answer(
     image: &[u8],
     entries: &[u8],
     results: &mut [u8],
     output: &mut [u8],
 ) -> Result<usize, Fault>
-    ensures { (record { given = carry_given_of result; results = results.new; output = output.new }) ≡ carry_image (load_of image.now) entries.now results.old output.old }
+    ensures { (record { given = bytes_given_of result; results = results.new; output = output.new }) ≡ carry_image (load_of image.now) entries.now results.old output.old }
 {
     let Next { book, answer } = load(image);
     answer?;

@@ -1,3 +1,4 @@
+pub mod Given
 pub mod Loaded
 pub mod Loads
 pub mod Longest

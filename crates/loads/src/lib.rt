@@ -1,6 +1,8 @@
 // A load: the book that an image holds, from lent bytes.
 #![tactic(auto)]
 
+mod given;
+
 ghost use Rattle.std.specs.Prelude.{◌≡◌, OnOk};
 ghost use Rattle.entries.specs.Refusals.{check_number};
 ghost use Rattle.book.specs.Fresh.{fresh_book};
@@ -11,6 +13,7 @@ ghost use Rattle.loads.specs.Loads.{load_of};
 use book::{Book, Next};
 use codec::{RECORD, Record, check, records_in};
 use entries::{Arrival, Refusal, refuse_if};
+pub use given::BytesGiven;
 
 // Why an image is refused: the refusal, and the record at fault, counted from 1, where one is.
 #[derive(Clone, Copy, Debug, PartialEq, Eq)]
@@ -63,7 +66,7 @@ fn load_into(book: &mut Book, image: &[u8]) -> LoadAnswer
 {
     check(image)?;
     let records = records_in(&image[RECORD..]);
-    for (number, bytes) in (1..).zip(records) {
+    for (number, bytes) in (1u16..).zip(records) {
         if let Err(refusal) = record(book, Record::decode(bytes)) {
             let record = Some(number);
             return Err(Fault { refusal, record });

@@ -13,22 +13,23 @@ use Rattle.entries.specs.Refusals.{refusal_number, decided_of}
 use Rattle.entries.proofs.RefusalsLaws.{refusal_above}
 use Rattle.lines.specs.Lines.{refused_line}
 use Rattle.book.specs.Fresh.{accounts_most}
+use Rattle.loads.specs.Given.{bytes_given}
 use Rattle.loads.specs.Loaded.{LoadedReply, record_number}
 use Rattle.loads.specs.declared.Fault.{Fault}
+use Rattle.loads.specs.declared.given.BytesGiven.{BytesGiven}
 use Rattle.pages.specs.Rows.{page_bytes}
 use Rattle.pages.specs.Pages.{page_text_of, page_of}
-use Rattle.image_page.specs.Pages.{PageImageExit, page_given, page_image}
-use Rattle.image_page.specs.declared.PageGiven.{PageGiven}
+use Rattle.image_page.specs.Pages.{PageImageExit, page_image}
 use Rattle.page_printer.specs.Printed.{printed_page}
 
-abbrev exit : PageGiven → List ℕ → PageImageExit
+abbrev exit : BytesGiven → List ℕ → PageImageExit
 exit g after = record { given = g; output = after }
 
 -- of a text that has just room for a page: the account's page is given and printed, or a refusal is, and the text stays
 data Outcome (l : LoadedReply) (account : ℕ) (before : List ℕ) : Type 0 where
-  paged : page_image l account before ≡ exit (page_given 0 0 page_bytes) (page_text_of l.book account ++ drop page_bytes before) →
+  paged : page_image l account before ≡ exit (bytes_given 0 0 page_bytes) (page_text_of l.book account ++ drop page_bytes before) →
       printed_page l account ≡ page_text_of l.book account → Outcome l account before
-  refused : (n i : ℕ) → (n ≡ 0 → ⊥) → page_image l account before ≡ exit (page_given n i 0) before → printed_page l account ≡ refused_line n i →
+  refused : (n i : ℕ) → (n ≡ 0 → ⊥) → page_image l account before ≡ exit (bytes_given n i 0) before → printed_page l account ≡ refused_line n i →
       Outcome l account before
 
 outcome : (l : LoadedReply) (account : ℕ) (before : List ℕ) → length before ≡ page_bytes → Outcome l account before
@@ -46,7 +47,7 @@ before = replicate page_bytes 0
 
 module _ (l : LoadedReply) (account : ℕ) (after : List ℕ) where
   -- a page that is given: it has 5,346 bytes, since the text has as many as before
-  pub given_page : (n : ℕ) → exit (page_given 0 0 n) after ≡ page_image l account before → length after ≡ page_bytes →
+  pub given_page : (n : ℕ) → exit (bytes_given 0 0 n) after ≡ page_image l account before → length after ≡ page_bytes →
       (n ≡ page_bytes) × (take n after ≡ printed_page l account)
   given_page n e h = by_outcome (outcome l account before refl)
     where
@@ -60,7 +61,7 @@ module _ (l : LoadedReply) (account : ℕ) (after : List ℕ) where
       by_outcome (refused r i f x p) = absurd (f (sym (ap (λ (v : PageImageExit). v.given.refusal) (e ∙ x))))
 
   -- a refusal: its line is printed
-  pub given_refusal : (f : Fault) → exit (page_given (refusal_number f.refusal) (record_number f) 0) after ≡ page_image l account before →
+  pub given_refusal : (f : Fault) → exit (bytes_given (refusal_number f.refusal) (record_number f) 0) after ≡ page_image l account before →
       printed_page l account ≡ refused_line (refusal_number f.refusal) (record_number f)
   given_refusal f e = by_outcome (outcome l account before refl)
     where

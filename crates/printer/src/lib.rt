@@ -7,13 +7,10 @@ ghost use Rattle.printer.specs.Printed.{book_lines, printed_of};
 
 use book::Book;
 use buffers::Text;
-use codec::LONGEST_IMAGE;
 use lines::{account_line, end_line, refused_line};
-use loads::{Loaded, load};
+use loads::Loaded;
 use queries::{StatementReply, statement};
 use std::io;
-use std::io::Read;
-use text::read_full;
 
 // The bytes that every text has room in: a line for each account, and one line more.
 pub const ROOM: usize = (Book::ACCOUNTS + 1) * lines::LONGEST_LINE;
@@ -52,13 +49,4 @@ pub fn printed(loaded: Loaded) -> Text<ROOM>
 // Writes what the printer writes of a load to standard output.
 pub fn print_loaded(rt: &impl Print, loaded: Loaded) -> io::Result<()> {
     rt.write_all(printed(loaded).as_slice())
-}
-
-// Reads an image, and writes what the printer writes of its load. No contract can say what is read and written: what is proved is `load` of
-// the bytes read, and `printed` of what it gives.
-pub fn print_image<R: Read>(rt: &impl Print, input: &mut R) -> io::Result<()> {
-    // One byte more than the longest image has, so that a longer one is noticed.
-    let mut image = [0u8; LONGEST_IMAGE + 1];
-    let n = read_full(input, &mut image)?;
-    print_loaded(rt, load(&image[..n]))
 }

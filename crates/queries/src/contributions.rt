@@ -104,7 +104,7 @@ pub fn contribution_query(book: &Book, account: u16, node: u8, serial: u32) -> C
 {
     check_query(account, node)?;
     let newest = book.account(account).newest;
-    match book.search(newest, Name { node, serial }) {
+    match book.chain(newest).search(Name { node, serial }) {
         Some(link) => figures(link.entry.data),
         None => Err(Refusal::NotOnChain),
     }

@@ -1,6 +1,6 @@
 // The statement of an account.
 ghost use Rattle.std.specs.Prelude.{◌≡◌};
-ghost use Rattle.queries.specs.Walk.{no_sums, sums_with, statement_figures_of};
+ghost use Rattle.queries.specs.Walk.{sums_with, statement_figures_of};
 ghost use Rattle.queries.specs.Statements.{statement_reply_of, statement_of};
 
 use book::{Book, check_account};
@@ -64,7 +64,7 @@ impl From<StatementAnswer> for StatementReply {
 }
 
 // What a walk of a chain counted and summed so far.
-#[derive(Clone, Copy)]
+#[derive(Clone, Copy, Default)]
 struct Sums {
     // All links passed, and those within the allowance.
     length: u16,
@@ -75,18 +75,6 @@ struct Sums {
 }
 
 impl Sums {
-    fn none() -> Sums
-        ensures { result ≡ no_sums }
-    {
-        Sums {
-            length: 0,
-            links_read: 0,
-            held: Cents(0),
-            bills: Cents(0),
-            payments: Cents(0),
-        }
-    }
-
     // After one entry more. It is read where fewer than the allowance were before it.
     #[tactic(auto, unfolding(crate::specs::Walk::sums_with))]
     fn with(self, entry: Entry, allowance: u64) -> Sums
@@ -137,7 +125,7 @@ pub fn statement(book: &Book, account: u16, allowance: u64) -> StatementAnswer
 {
     check_account(account)?;
     let own = book.account(account);
-    let mut sums = Sums::none();
+    let mut sums = Sums::default();
     for link in book.chain(own.newest) {
         sums = sums.with(link.entry, allowance);
     }

@@ -4,7 +4,7 @@ ghost use Rattle.rules.specs.Accounts.{no_account, credited_of, plus_credit_of, 
 
 use measures::{Cents, Day};
 
-#[derive(Clone, Copy)]
+#[derive(Clone, Copy, Default)]
 pub struct Account {
     pub arrears: Cents,
     pub credit: Cents,
@@ -31,15 +31,7 @@ impl Account {
     pub fn fresh() -> Account
         ensures { result ≡ no_account }
     {
-        Account {
-            arrears: Cents(0),
-            credit: Cents(0),
-            deposit: Cents(0),
-            rate: 0,
-            deposited: Day(0),
-            guarantee_open: false,
-            newest: 0,
-        }
+        Account::default()
     }
 
     // To credit an amount: arrears fall by the smaller of the two; the rest is left over.

@@ -6,7 +6,7 @@ use entries::Refusal;
 use measures::Cents;
 
 // The four amounts of an accepted posting: arrears settled by a credit, paid out, retained, interest.
-#[derive(Clone, Copy, Debug, PartialEq, Eq)]
+#[derive(Clone, Copy, Debug, Default, PartialEq, Eq)]
 pub struct Amounts {
     pub settled: Cents,
     pub paid_out: Cents,
@@ -32,15 +32,6 @@ pub struct PostingReply {
     pub paid_out: u64,
     pub retained: u64,
     pub interest: u64,
-}
-
-impl Amounts {
-    pub const NONE: Amounts = Amounts {
-        settled: Cents(0),
-        paid_out: Cents(0),
-        retained: Cents(0),
-        interest: Cents(0),
-    };
 }
 
 impl From<PostingAnswer> for PostingReply {

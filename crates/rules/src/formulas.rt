@@ -13,16 +13,19 @@ pub fn billed(charge: Cents, served: u8, period: u16) -> Cents
     charge.times(u64::from(served)).rounded(u64::from(period))
 }
 
-// What one more customer on the line gives back: its share, and not more than is held.
+// What one more customer on the line gives back: its share, and not more than is held. Cents and metres are unwrapped, and the refund is
+// cents again.
 #[tactic(auto, unfolding(crate::specs::Formulas::refund_of))]
 pub fn refund(particulars: Particulars, shared: Metres) -> Cents
     ensures { result ≡ refund_of particulars shared }
 {
+    let contribution = particulars.amount.0;
+    let metres_shared = u64::from(shared.0);
+    let metres_built = u64::from(particulars.built.0);
     let k = u64::from(particulars.added) + 2;
-    let divisor = u64::from(particulars.built.0) * k;
-    let product = particulars.amount.times(u64::from(shared.0));
-    let share = product.0.checked_div(divisor).unwrap_or(0);
-    particulars.held.least(Cents(share))
+    let product = contribution.saturating_mul(metres_shared);
+    let share = product.checked_div(metres_built * k).unwrap_or(0);
+    Cents(particulars.held.0.min(share))
 }
 
 // The days of a year times the hundredths of a percent in the whole.

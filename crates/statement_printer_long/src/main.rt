@@ -1,9 +1,15 @@
 // The statement printer on a full image with one record more than the longest image has.
 #![tactic(auto)]
 
-use printer::print_image;
+use codec::LONGEST_IMAGE;
+use loads::load;
+use printer::print_loaded;
 use std::io;
+use text::read_full;
 
 fn main(rt: HostRuntime) -> io::Result<()> {
-    print_image(&rt, &mut rt.stdin())
+    // One byte more than the longest image has, so that a longer one is noticed.
+    let mut image = [0u8; LONGEST_IMAGE + 1];
+    let n = read_full(&mut rt.stdin(), &mut image)?;
+    print_loaded(&rt, load(&image[..n]))
 }

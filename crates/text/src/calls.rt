@@ -1,5 +1,5 @@
 // The calls that lines are: a letter for each, and as many numbers as it has, as wide as they are.
-ghost use Rattle.std.specs.Prelude.{◌≤◌, ◌+◌, length, IfSome, OnSome, IfOk};
+ghost use Rattle.std.specs.Prelude.{◌≤◌, ◌+◌, length, OnSome, IfOk};
 ghost use Rattle.arrayvec.specs.ArrayVec.{array_vec_len};
 ghost use Rattle.text.specs.declared.calls.TheConstants.{BUFFER, PLACES, SHOWN};
 
@@ -41,19 +41,33 @@ impl TryFrom<u64> for BookNumber {
     }
 }
 
-// So many places for a carry-over's results.
+// A number within a limit.
 #[derive(Clone, Copy)]
-pub struct Places {
-    pub count: usize,
-    pub ghost in_the_list: { count ≤ PLACES },
+pub struct AtMost<const MOST: usize> {
+    pub number: usize,
+    pub ghost within: { number ≤ MOST },
 }
 
-// The first so many bytes of the buffer.
-#[derive(Clone, Copy)]
-pub struct Room {
-    pub size: usize,
-    pub ghost in_the_buffer: { size ≤ BUFFER },
+impl<const MOST: usize> TryFrom<u64> for AtMost<MOST> {
+    ghost use Rattle.std.specs.Prelude.{◌≡◌, ◌<◌, MatchResult};
+
+    type Error = Unclear;
+
+    ghost try_from_gives = { λ number result. MatchResult result (λ r. r.number ≡ number) (λ _. MOST < number) };
+
+    fn try_from(number: u64) -> Result<AtMost<MOST>, Unclear> {
+        match usize::try_from(number) {
+            Ok(number) if number <= MOST => Ok(AtMost { number }),
+            _ => Err(Unclear),
+        }
+    }
 }
+
+// So many places for a carry-over's results.
+pub type Places = AtMost<PLACES>;
+
+// The first so many bytes of the buffer.
+pub type Room = AtMost<BUFFER>;
 
 // So many bytes of the buffer from a place on.
 #[derive(Clone, Copy)]
@@ -110,14 +124,6 @@ pub enum Call {
 pub struct Unclear;
 
 impl Numbers<'_> {
-    // The next number, where it is none above a limit.
-    fn up_to(&mut self, most: usize) -> Option<usize>
-        ensures { IfSome result (λ n. n ≤ most) }
-    {
-        let n = self.next()?;
-        (n <= most).then_some(n)
-    }
-
     fn entry(&mut self) -> Option<Raw> {
         Some(Raw {
             kind: self.next()?,
@@ -133,20 +139,8 @@ impl Numbers<'_> {
         })
     }
 
-    fn places(&mut self) -> Option<Places> {
-        Some(Places {
-            count: self.up_to(PLACES)?,
-        })
-    }
-
-    fn room(&mut self) -> Option<Room> {
-        Some(Room {
-            size: self.up_to(BUFFER)?,
-        })
-    }
-
     fn change(&mut self) -> Option<Change> {
-        let from = self.up_to(BUFFER)?;
+        let from = self.next::<Room>()?.number;
         let mut bytes = ArrayVec::new();
         // The place of the last byte lies within the buffer too.
         for _ in from..BUFFER {
@@ -159,8 +153,11 @@ impl Numbers<'_> {
     }
 
     fn span(&mut self) -> Option<Span> {
-        let from = self.up_to(BUFFER)?;
-        let count = self.up_to(SHOWN.min(BUFFER - from))?;
+        let from = self.next::<Room>()?.number;
+        let count = self.next::<AtMost<SHOWN>>()?.number;
+        if count > BUFFER - from {
+            return None;
+        }
         Some(Span { from, count })
     }
 }
@@ -172,7 +169,7 @@ impl Call {
             b'b' => Some(Call::Turn(numbers.next()?)),
             b'p' => Some(Call::Post(numbers.entry()?)),
             b'e' => Some(Call::List(numbers.entry()?)),
-            b'o' => Some(Call::CarryOver(numbers.places()?)),
+            b'o' => Some(Call::CarryOver(numbers.next()?)),
             b's' => Some(Call::Statement {
                 account: numbers.next()?,
                 allowance: numbers.next()?,
@@ -184,10 +181,10 @@ impl Call {
             }),
             b'g' => Some(Call::Page {
                 account: numbers.next()?,
-                room: numbers.room()?,
+                room: numbers.next()?,
             }),
-            b'w' => Some(Call::Save(numbers.room()?)),
-            b'l' => Some(Call::Load(numbers.room()?)),
+            b'w' => Some(Call::Save(numbers.next()?)),
+            b'l' => Some(Call::Load(numbers.next()?)),
             b'r' => Some(Call::OpenRun {
                 node: numbers.next()?,
                 day: numbers.next()?,

@@ -7,7 +7,8 @@ mod reading;
 mod writing;
 
 pub use calls::{
-    BUFFER, BookNumber, Call, Change, PLACES, Places, Room, SHOWN, Span, Unclear, understood,
+    AtMost, BUFFER, BookNumber, Call, Change, PLACES, Places, Room, SHOWN, Span, Unclear,
+    understood,
 };
 pub use input::read_full;
 pub use reading::{LONGEST_READ, NUMBERS, number};

@@ -8,7 +8,7 @@ use entries::{Data, Kind, one_more};
 use measures::Cents;
 
 // What the entries of a year come to.
-#[derive(Clone, Copy)]
+#[derive(Clone, Copy, Default)]
 pub struct Year {
     // Bills with late charges, and payments, at their standing amounts.
     pub bills: Cents,
@@ -40,12 +40,7 @@ impl Year {
     pub fn none() -> Year
         ensures { result ≡ no_year }
     {
-        Year {
-            bills: Cents(0),
-            payments: Cents(0),
-            paid_out: Cents(0),
-            entries: 0,
-        }
+        Year::default()
     }
 
     // After an entry of the year, which paid so much out.

@@ -1,24 +1,24 @@
 use Rattle.std.proofs.Common.{sym, ap, ◌∙◌}
 use Rattle.saves.specs.Saves.{save_reply_of}
-use Rattle.image_carry.specs.Carries.{carry_given_of}
+use Rattle.loads.specs.Given.{bytes_given_of}
 use Rattle.image_carry.proofs.Carries.{carry_17, carry_22, carry_29, carry_21, carry_accepted, carry_fits}
 use Rattle.image_carry.proofs.carry_into.Goals as goal
 
 pub returns-then-entries-ne0 : goal.returns-then-entries-ne0
-unfolding carry_given_of
+unfolding bytes_given_of
 returns-then-entries-ne0 c =
     let a = c.args in
     rw c.into.ensures (carry_17 a.book a.entries.now a.results.now a.output.now c.if-entries-ne0.true)
 
 pub returns-then-results-entries : goal.returns-then-results-entries
-unfolding carry_given_of
+unfolding bytes_given_of
 returns-then-results-entries c =
     let a = c.args in
     rw c.into-then-results-entries.ensures
     (carry_22 a.book a.entries.now a.results.now a.output.now c.if-entries-ne0.false c.if-results-entries.true)
 
 pub returns-then-is_some : goal.returns-then-is_some
-unfolding carry_given_of
+unfolding bytes_given_of
 returns-then-is_some c =
     let a = c.args in
     rw c.into-then-is_some.ensures
@@ -26,7 +26,7 @@ returns-then-is_some c =
     (sym c.is_some.ensures ∙ c.if-is_some.true))
 
 pub returns-then-too_short : goal.returns-then-too_short
-unfolding carry_given_of
+unfolding bytes_given_of
 returns-then-too_short c =
     let a = c.args in
     rw c.into-then-too_short.ensures
@@ -42,7 +42,7 @@ returns-in_err-save c =
     (sym c.too_short.ensures ∙ c.if-too_short.false) (sym (ap save_reply_of c.in_err-save.was) ∙ c.save.ensures.0))
 
 pub returns : goal.returns
-unfolding save_reply_of carry_given_of
+unfolding save_reply_of bytes_given_of
 returns c =
     let a = c.args in
     let posted = c.post_all in

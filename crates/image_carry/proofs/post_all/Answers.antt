@@ -1,9 +1,9 @@
 use Rattle.std.proofs.Common.{refl, sym, ap, ◌∙◌}
 use Rattle.codec.proofs.Records.{record_next, records_end}
-use Rattle.rules.specs.declared.answers.PostingReply.{PostingReply}
 use Rattle.book.specs.Posting.{PostedReply}
 use Rattle.image_carry.specs.Carries.{read_entries}
 use Rattle.image_carry.proofs.Carries.{posts_next, posts_end, put_next, put_end}
+use Rattle.carry.proofs.Carry.{numbered}
 use Rattle.image_carry.proofs.post_all.Goals as goal
 
 pub loop-i-init : goal.loop-i-init
@@ -14,8 +14,8 @@ pub loop-i-preserved : goal.loop-i-preserved
 loop-i-preserved c =
     let l = c.loop-i in
     let next = record_next _ _ l.i _ c.records_in-bytes-items.ensures c.loop-i-test.true c.decode.ensures in
-    let book = ap (λ (p : PostedReply). p.book) c.offer.ensures in
-    let refusal = ap (λ (r : PostingReply). r.refusal) (c.from-reply.ensures ∙ ap (λ (p : PostedReply). p.reply) c.offer.ensures) in
+    let book = ap (λ (p : PostedReply). p.book) c.offer-answer.ensures in
+    let refusal = numbered _ _ c.refusal_of.ensures ∙ ap (λ (p : PostedReply). p.reply.refusal) c.offer-answer.ensures in
     record {
       book = rw book (sym (posts_next _ _ c.decode.result l.book next) ∙ l.invariant.book);
       results = rw (book, c.put_result.ensures, refusal) (sym (put_next _ _ c.decode.result l.book l.results l.i next) ∙ l.invariant.results);
