@@ -7,6 +7,7 @@ use mathlib.Core.Bool.{Bool, true, false, cond, true≢false}
 use lib.Dec.{leb}
 use borrow.Author.Tests.{leb-true, leb-false}
 use Rattle.measures.specs.Cents.{cents, most}
+use Rattle.measures.specs.declared.Cents.{Cents}
 use Rattle.entries.specs.Ranges.{amount_most}
 use Rattle.entries.specs.Kinds.{same_of}
 use Rattle.entries.specs.declared.data.Entry.{Entry}
@@ -20,6 +21,7 @@ use Rattle.rules.specs.Formulas.{billed, interest, given_back_of}
 use Rattle.rules.specs.Accounts.{credited_of, plus_credit_of, charged_of, with_deposit_of, with_guarantee_of}
 use Rattle.rules.specs.Answers.{amounts_of}
 use Rattle.changes.specs.Changes.{change_of, contribution_of, added_customer_of, bill_of, payment_of, deposit_of, deposit_return_of, expiry_of, correction_of, guarantee_of, late_charge_of, reduction_of, retention_of, own_change_of, naming_change_of}
+use Rattle.rules.specs.declared.accounts.Account.{Account}
 use Rattle.rules.specs.declared.accounts.Credited.{Credited}
 use Rattle.rules.specs.declared.answers.Amounts as four'
 use Rattle.changes.specs.declared.Link.{Link}
@@ -136,3 +138,20 @@ module _ (r : Raw) (b : Balance) (guarantee : Bool) (newest n : ℕ) (w : Small 
         let payment = restated b guarantee newest r.amount g.standing (omega arith) (omega arith) in
         upon_cases (λ k l. (l ≡ kind.Contribution → settled + paid + g.held ≤ amount_most) → NamingEffect k l)
         (λ p. added_effect m a c (p refl)) (λ p. simp zero-add) (λ p. rw (bill.0, bill.1) refl) (λ p. rw (payment.0, payment.1) refl) (λ p. refl) (λ p. refl) k l n u
+
+-- AN ENTRY THAT NAMES ANOTHER CHANGES IT, AT ITS PLACE, AND ITS DATA ALONE
+
+abbrev Names : Link → Change → Type 0
+Names l c = (d : Data) × (c.named ≡ Some (record { place = l.place; entry = with_of l.entry d }))
+
+either_names : (l : Link) (t : Bool) (x y : Change) → Names l x → Names l y → Names l (cond t x y)
+either_names l true x y p q = p
+either_names l false x y p q = q
+
+pub naming_names : (r : Raw) (k : Kind) (acc : Account) (paid : Cents) (l : Link) → Names l (naming_change_of r k acc paid l)
+unfolding naming_change_of added_customer_of expiry_of reduction_of retention_of correction_of
+naming_names r k acc paid l =
+    either_names l (same_of k kind.AddedCustomer) _ _ (_, refl)
+    (either_names l (same_of k kind.Expiry) _ _ (_, refl)
+    (either_names l (same_of k kind.Reduction) _ _ (_, refl)
+    (either_names l (same_of k kind.Retention) _ _ (_, refl) (_, refl))))
