@@ -158,6 +158,25 @@ struct contribution_book_contribution_given contribution_book_contribution(const
                                                                            uint16_t account, uint8_t node,
                                                                            uint32_t serial);
 
+struct contribution_book_year_given {
+    uint8_t refusal;
+    uint16_t record;
+    uint16_t entries;  /* how many entries of any kind are dated in the year */
+    uint64_t bills;    /* standing bills and late charges, in cents, as are the following */
+    uint64_t payments; /* standing payments */
+    uint64_t paid_out; /* by added customers, deposit returns and reductions */
+};
+
+/*
+ * The totals of a calendar year, over all accounts: those of document 02's request 7.
+ * Takes    the image and the year.
+ * Gives    the figures above, summed over the entries dated in the year. A bill or payment counts in its own year as it stands,
+ *          whenever it was corrected. The book has the years 2000 to 2099; every other year gives zeros.
+ * Refuses  the image.
+ * Leaves   nothing: it writes to no buffer.
+ */
+struct contribution_book_year_given contribution_book_year(const uint8_t *image, size_t image_length, uint16_t year);
+
 struct contribution_book_page_given {
     uint8_t refusal;
     uint16_t record;

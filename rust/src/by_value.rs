@@ -3,7 +3,7 @@
 //!
 //! No call is inlined: an inlined one passes no book.
 
-use crate::plain::{self, ContributionReply, PostingReply, Raw, StatementReply, RECORD};
+use crate::plain::{self, ContributionReply, PostingReply, Raw, StatementReply, Year, RECORD};
 
 /// The contribution book, passed by value.
 #[derive(Clone, Debug, PartialEq, Eq)]
@@ -92,6 +92,13 @@ impl Book {
     ) -> (Book, ContributionReply) {
         let reply = self.plain.contribution_query(account, node, serial);
         (self, reply)
+    }
+
+    /// The totals of a calendar year.
+    #[inline(never)]
+    pub fn year_totals(self, year: u16) -> (Book, Year) {
+        let totals = self.plain.year_totals(year);
+        (self, totals)
     }
 
     /// Writes the account's page; gives refusal 0 and its length, or 3 or 23.

@@ -1,7 +1,7 @@
 //! The plain book's answers as the proved library gives them.
 
-use crate::plain::{ContributionReply, PostingReply, StatementReply};
-use crate::proved::{ContributionGiven, PostingGiven, StatementGiven};
+use crate::plain::{ContributionReply, PostingReply, StatementReply, Year};
+use crate::proved::{ContributionGiven, PostingGiven, StatementGiven, YearGiven};
 
 impl PostingGiven {
     /// The answer to a posting after which the image has so many bytes.
@@ -48,6 +48,19 @@ impl From<ContributionReply> for ContributionGiven {
             paid_out: reply.paid_out,
             held: reply.held,
             retained: reply.retained,
+        }
+    }
+}
+
+impl From<Year> for YearGiven {
+    fn from(totals: Year) -> YearGiven {
+        YearGiven {
+            refusal: 0,
+            record: 0,
+            entries: totals.entries,
+            bills: totals.bills,
+            payments: totals.payments,
+            paid_out: totals.paid_out,
         }
     }
 }

@@ -8,3 +8,4 @@ pub mod printer;
 #[cfg(feature = "proved")]
 pub mod proved;
 pub mod samples;
+pub mod summed;

@@ -11,18 +11,22 @@ mod page;
 mod posting;
 mod query;
 mod run;
+mod years;
 
-pub use calendar::{date_of, day_of, years_on, Date};
+pub use calendar::{date_of, day_of, year_of, years_on, Date};
 pub use check::Incoming;
 pub(crate) use image::check_header;
 pub use image::{parse_record, write_record};
 pub use query::{ContributionReply, StatementReply};
 use run::Run;
+pub use years::Year;
 
 /// Accounts of every book, numbered from 1.
 pub const ACCOUNTS: usize = 128;
 /// Entries that a full book holds, numbered from 1.
 pub const ENTRIES: usize = 1024;
+/// Calendar years of every book, from 2000 on.
+pub const YEARS: usize = 100;
 /// Bytes of an image's header and of each of its records.
 pub const RECORD: usize = 24;
 /// Bytes of the longest image, a full book's.
@@ -170,8 +174,9 @@ struct Account {
     credit: u64,
     /// The deposit held; zero where none is.
     deposit: u64,
-    /// The held deposit's yearly rate in hundredths of a percent.
-    rate: u16,
+    /// The held deposit's yearly rate in hundredths of a percent. Its width
+    /// keeps the book's bytes away from a multiple of 4,096.
+    rate: u64,
     /// The held deposit's day.
     deposited: u16,
     /// A guarantee of the account is open.
@@ -215,6 +220,8 @@ pub struct Book {
     count: usize,
     /// Last serial of node 1 and of node 2.
     last_serials: [u32; 2],
+    /// The year 2000 + n is at n.
+    years: [Year; YEARS],
     /// The late-charge run that is open. An image holds none.
     run: Option<Run>,
 }
@@ -227,6 +234,7 @@ impl Book {
             entries: [Entry::EMPTY; ENTRIES],
             count: 0,
             last_serials: [0; 2],
+            years: [Year::default(); YEARS],
             run: None,
         }
     }

@@ -74,6 +74,18 @@ pub struct ContributionGiven {
     pub retained: u64,
 }
 
+/// What `year` gives.
+#[repr(C)]
+#[derive(Clone, Copy, Debug, Default, PartialEq, Eq)]
+pub struct YearGiven {
+    pub refusal: u8,
+    pub record: u16,
+    pub entries: u16,
+    pub bills: u64,
+    pub payments: u64,
+    pub paid_out: u64,
+}
+
 /// What `page` gives.
 #[repr(C)]
 #[derive(Clone, Copy, Debug, Default, PartialEq, Eq)]
@@ -120,6 +132,8 @@ extern "C" {
         node: u8,
         serial: u32,
     ) -> ContributionGiven;
+
+    fn contribution_book_year(image: *const u8, image_length: usize, year: u16) -> YearGiven;
 
     fn contribution_book_page(
         image: *const u8,
@@ -188,6 +202,12 @@ pub fn statement(image: &[u8], account: u16, allowance: u64) -> StatementGiven {
 pub fn contribution(image: &[u8], account: u16, node: u8, serial: u32) -> ContributionGiven {
     // SAFETY: as in `check`.
     unsafe { contribution_book_contribution(image.as_ptr(), image.len(), account, node, serial) }
+}
+
+/// The totals of a calendar year.
+pub fn year(image: &[u8], year: u16) -> YearGiven {
+    // SAFETY: as in `check`.
+    unsafe { contribution_book_year(image.as_ptr(), image.len(), year) }
 }
 
 /// The statement page of an account; it goes to the start of the output.

@@ -40,3 +40,32 @@ pub fn named_kind(kind: u8) -> u8 {
         _ => CONTRIBUTION,
     }
 }
+
+/// A sequence of numbers that look random, the same for each seed.
+struct Numbers(u64);
+
+impl Numbers {
+    fn below(&mut self, limit: u32) -> u32 {
+        self.0 = self.0.wrapping_mul(6_364_136_223_846_793_005);
+        self.0 = self.0.wrapping_add(1_442_695_040_888_963_407);
+        (self.0 >> 33) as u32 % limit
+    }
+}
+
+/// 300 entries of every kind that can be posted by turns, on two accounts. Some
+/// are refused.
+pub fn entries(seed: u64) -> Vec<Raw> {
+    let kinds = u32::from(LAST_POSTED_KIND);
+    let mut numbers = Numbers(seed);
+    let mut entry_at = |serial: u32| {
+        let kind = ((serial - 1) % kinds) as u8 + 1;
+        let turn = numbers.below((serial - 1) / kinds + 1);
+        let named_serial = kinds * turn + u32::from(named_kind(kind));
+        let account = numbers.below(2) as u16 + 1;
+        Raw {
+            day: numbers.below(5_000) as u16,
+            ..entry(kind, account, serial, named_serial)
+        }
+    };
+    (1..=300).map(&mut entry_at).collect()
+}

@@ -1,36 +1,8 @@
 //! The book passed by value gives the plain book's answers and images.
 
-use contribution_book::{by_value, plain, plain::*, samples};
+use contribution_book::samples::{self, entries};
+use contribution_book::{by_value, plain, plain::*};
 use std::collections::BTreeSet;
-
-const KINDS: u32 = LAST_POSTED_KIND as u32;
-
-/// A sequence of numbers that look random, the same for each seed.
-struct Numbers(u64);
-
-impl Numbers {
-    fn below(&mut self, limit: u32) -> u32 {
-        self.0 = self.0.wrapping_mul(6_364_136_223_846_793_005);
-        self.0 = self.0.wrapping_add(1_442_695_040_888_963_407);
-        (self.0 >> 33) as u32 % limit
-    }
-}
-
-/// Entries of every kind that can be posted by turns, on two accounts.
-fn entries(seed: u64) -> Vec<Raw> {
-    let mut numbers = Numbers(seed);
-    let mut entry = |serial: u32| {
-        let kind = ((serial - 1) % KINDS) as u8 + 1;
-        let turn = numbers.below((serial - 1) / KINDS + 1);
-        let named_serial = KINDS * turn + u32::from(samples::named_kind(kind));
-        let account = numbers.below(2) as u16 + 1;
-        Raw {
-            day: numbers.below(5_000) as u16,
-            ..samples::entry(kind, account, serial, named_serial)
-        }
-    };
-    (1..=300).map(&mut entry).collect()
-}
 
 /// Both books after the same postings, whose answers are compared.
 fn posted(entries: &[Raw]) -> (plain::Book, by_value::Book) {
@@ -205,6 +177,17 @@ fn contribution_queries() {
     for serial in 0..=300 {
         let (next, reply) = by_value.contribution_query(1, 1, serial);
         assert_eq!(reply, plain.contribution_query(1, 1, serial));
+        by_value = next;
+    }
+    saved(&plain, by_value);
+}
+
+#[test]
+fn years() {
+    let (plain, mut by_value) = posted(&entries(1));
+    for year in (1_999..=2_014).chain([0, 2_099, 2_100, u16::MAX]) {
+        let (next, totals) = by_value.year_totals(year);
+        assert_eq!(totals, plain.year_totals(year));
         by_value = next;
     }
     saved(&plain, by_value);

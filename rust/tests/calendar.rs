@@ -1,7 +1,7 @@
 //! The plain book's calendar against days worked out by hand, and against all
 //! dates in their order.
 
-use contribution_book::plain::{date_of, day_of, years_on, Date, LAST_DAY};
+use contribution_book::plain::{date_of, day_of, year_of, years_on, Date, LAST_DAY};
 
 /// Year, month and day of the month.
 type Fields = (u16, u16, u16);
@@ -58,6 +58,7 @@ fn every_day_has_its_date_and_every_date_its_day() {
     assert_eq!(dates.len(), usize::from(LAST_DAY) + 1);
     for (day, fields) in (0..).zip(dates) {
         assert_eq!(date_of(day), date(fields), "{day}");
+        assert_eq!(year_of(day), fields.0, "{day}");
         assert_eq!(day_of(date(fields)), day, "{fields:?}");
     }
 }

@@ -3,6 +3,9 @@
 
 use contribution_book::plain::*;
 use contribution_book::printer::write_account;
+use contribution_book::samples;
+use contribution_book::summed::{corrects, year_totals, Taken};
+use std::collections::BTreeSet;
 
 /// An entry of node 1 and account 5 on day 0; a test sets the other fields.
 fn entry(kind: u8, serial: u32) -> Raw {
@@ -2503,4 +2506,417 @@ fn refusals_of_a_bill_of_zero_days_served_at_load() {
     assert_eq!(bytes[54], 1);
     bytes[54] = 0;
     load_refused(&bytes, 20, 2);
+}
+
+/// A year's bills, payments, paid out and number of entries.
+type Totals = [u64; 4];
+type YearTotals = (u16, Totals);
+
+fn figures(year: Year) -> Totals {
+    let entries = year.entries.into();
+    [year.bills, year.payments, year.paid_out, entries]
+}
+
+/// Those of these years that don't read zero.
+fn not_zero(years: impl Iterator<Item = (u16, Year)>) -> Vec<YearTotals> {
+    let figures = years.map(|(number, year)| (number, figures(year)));
+    figures.filter(|(_, totals)| *totals != [0; 4]).collect()
+}
+
+/// Every year that doesn't read zero, of all that can be asked for.
+fn years(book: &Book) -> Vec<YearTotals> {
+    not_zero((0..=u16::MAX).map(|year| (year, book.year_totals(year))))
+}
+
+/// These years don't read zero, in the book and in the one that its image loads
+/// as.
+fn years_are(book: &Book, expected: &[YearTotals]) {
+    assert_eq!(years(book), expected);
+    let (loaded, refusal, record) = Book::load(&image(book));
+    assert_eq!((refusal, record), (0, 0));
+    assert_eq!(years(&loaded), expected);
+}
+
+#[test]
+fn every_year_of_a_fresh_book_reads_zero() {
+    years_are(&Book::fresh(), &[]);
+}
+
+#[test]
+fn the_first_and_the_last_days_of_years() {
+    let amounts = [
+        // 1 January and 31 December 2000.
+        (0, 1),
+        (365, 2),
+        // 1 January and 31 December 2001, 1 January 2002.
+        (366, 4),
+        (730, 8),
+        (731, 16),
+        // 31 December 2098, 1 January and 31 December 2099.
+        (36_159, 32),
+        (36_160, 64),
+        (36_524, 128),
+    ];
+    let paid = |(serial, (day, amount))| on(day, payment(serial, amount));
+    let list: Vec<Raw> = (1..).zip(amounts).map(paid).collect();
+    let expected = [
+        (2000, [0, 3, 0, 2]),
+        (2001, [0, 12, 0, 2]),
+        (2002, [0, 16, 0, 1]),
+        (2098, [0, 32, 0, 1]),
+        (2099, [0, 192, 0, 2]),
+    ];
+    years_are(&book(&list), &expected);
+}
+
+#[test]
+fn each_of_the_hundred_years_has_its_own_figures() {
+    // A bill of so many cents on 1 January; of 4 years before it, 1 is a leap
+    // year.
+    let billed = |years: u16| {
+        let first_day = 365 * years + years.div_ceil(4);
+        let serial = u32::from(years) + 1;
+        on(first_day, bill(serial, serial, 1, 1))
+    };
+    let list: Vec<Raw> = (0..100).map(billed).collect();
+    let totals = |years: u16| (2000 + years, [u64::from(years) + 1, 0, 0, 1]);
+    let expected: Vec<YearTotals> = (0..100).map(totals).collect();
+    years_are(&book(&list), &expected);
+}
+
+#[test]
+fn years_before_2000_and_after_2099_read_zero() {
+    let book = book(&[payment(1, 500), on(36_524, payment(2, 700))]);
+    years_are(&book, &[(2000, [0, 500, 0, 1]), (2099, [0, 700, 0, 1])]);
+    for year in [0, 99, 1_900, 1_999, 2_100, 2_256, 65_535] {
+        assert_eq!(book.year_totals(year), Year::default(), "{year}");
+    }
+}
+
+#[test]
+fn a_year_is_of_all_accounts_and_nodes() {
+    let of_node_2 = |account, raw| Raw {
+        node: 2,
+        account,
+        ..raw
+    };
+    let book = book(&[
+        on(400, at(1, bill(1, 1_000, 1, 1))),
+        // Days may fall. P7: 2,333.
+        on(10, of_node_2(128, bill(1, 10_000, 30, 7))),
+        on(10, payment(2, 300)),
+        on(365, of_node_2(6, payment(2, 200))),
+        on(400, of_node_2(1, payment(3, 50))),
+        on(0, at(7, guarantee(3, 70))),
+    ]);
+    let expected = [(2000, [2_333, 500, 0, 4]), (2001, [1_000, 50, 0, 2])];
+    years_are(&book, &expected);
+}
+
+/// Posts, after these entries, corrections of the first: day, new amount and the
+/// years then.
+fn years_after_corrections(start: &[Raw], figures: &[(u16, u32, &[YearTotals])]) {
+    for &(day, amount, expected) in figures {
+        let mut book = book(start);
+        let serial = start.len() as u32 + 1;
+        accepted(&mut book, on(day, correction(serial, 1, amount)));
+        years_are(&book, expected);
+        refused(&mut book, on(day, correction(serial + 1, 1, 1)), 16);
+        years_are(&book, expected);
+    }
+}
+
+#[test]
+fn a_corrected_bill_counts_in_its_own_year() {
+    // 2,333, as in P7.
+    let start = [
+        on(100, bill(1, 10_000, 30, 7)),
+        on(365, bill(2, 500, 1, 1)),
+        on(366, bill(3, 40, 1, 1)),
+    ];
+    let before = [(2000, [2_833, 0, 0, 2]), (2001, [40, 0, 0, 1])];
+    years_are(&book(&start), &before);
+    let figures: [(u16, u32, &[YearTotals]); 7] = [
+        // In 2000 too.
+        (200, 5_000, &[(2000, [5_500, 0, 0, 3]), before[1]]),
+        (365, 0, &[(2000, [500, 0, 0, 3]), before[1]]),
+        // In 2001: more, less, nothing, as much.
+        (
+            366,
+            5_000,
+            &[(2000, [5_500, 0, 0, 2]), (2001, [40, 0, 0, 2])],
+        ),
+        (
+            366,
+            2_300,
+            &[(2000, [2_800, 0, 0, 2]), (2001, [40, 0, 0, 2])],
+        ),
+        (730, 0, &[(2000, [500, 0, 0, 2]), (2001, [40, 0, 0, 2])]),
+        (730, 2_333, &[before[0], (2001, [40, 0, 0, 2])]),
+        // In 2099.
+        (
+            36_524,
+            100_000_000,
+            &[
+                (2000, [100_000_500, 0, 0, 2]),
+                before[1],
+                (2099, [0, 0, 0, 1]),
+            ],
+        ),
+    ];
+    years_after_corrections(&start, &figures);
+}
+
+#[test]
+fn a_corrected_payment_counts_in_its_own_year() {
+    let start = [
+        on(365, payment(1, 2_500)),
+        on(366, payment(2, 300)),
+        on(366, bill(3, 40, 1, 1)),
+    ];
+    let before = [(2000, [0, 2_500, 0, 1]), (2001, [40, 300, 0, 2])];
+    years_are(&book(&start), &before);
+    let figures: [(u16, u32, &[YearTotals]); 5] = [
+        (365, 1_000, &[(2000, [0, 1_000, 0, 2]), before[1]]),
+        (
+            366,
+            1_000,
+            &[(2000, [0, 1_000, 0, 1]), (2001, [40, 300, 0, 3])],
+        ),
+        // The year has an entry, and so doesn't read zero.
+        (366, 0, &[(2000, [0, 0, 0, 1]), (2001, [40, 300, 0, 3])]),
+        (366, 2_500, &[before[0], (2001, [40, 300, 0, 3])]),
+        (
+            731,
+            9_000,
+            &[(2000, [0, 9_000, 0, 1]), before[1], (2002, [0, 0, 0, 1])],
+        ),
+    ];
+    years_after_corrections(&start, &figures);
+}
+
+#[test]
+fn refunds_paid_out_count_in_the_year_of_the_added_customer() {
+    // P1 to P4: 75,000 to arrears, 5,000 to arrears and 95,000 paid out; then
+    // 75,000 and 50,000 paid out.
+    let book = book(&[
+        on(300, contribution(1, 300_000, 200, 1)),
+        on(300, bill(2, 80_000, 1, 1)),
+        on(365, added(3, 1, 100)),
+        on(366, added(4, 1, 200)),
+        on(730, added(5, 1, 200)),
+        on(731, added(6, 1, 200)),
+    ]);
+    let expected = [
+        (2000, [80_000, 0, 0, 3]),
+        (2001, [0, 0, 170_000, 2]),
+        (2002, [0, 0, 50_000, 1]),
+    ];
+    years_are(&book, &expected);
+}
+
+#[test]
+fn deposit_returns_paid_out_count_in_the_year_of_the_return() {
+    // P9: 31,560 after 365 days, of which 1,000 settle the bill.
+    let book = book(&[
+        on(1, deposit(1, 30_000, 520)),
+        on(1, bill(2, 1_000, 1, 1)),
+        on(366, deposit_return(3)),
+        on(730, deposit(4, 700, 0)),
+        on(731, deposit_return(5)),
+    ]);
+    let expected = [
+        (2000, [1_000, 0, 0, 2]),
+        (2001, [0, 0, 30_560, 2]),
+        (2002, [0, 0, 700, 1]),
+    ];
+    years_are(&book, &expected);
+}
+
+#[test]
+fn reductions_paid_out_count_in_the_year_of_the_reduction() {
+    let book = book(&[
+        guarantee(1, 50_000),
+        on(200, payment(2, 100_000)),
+        // 10,000 paid out.
+        on(365, reduction(3, 1)),
+        on(700, payment(4, 3_000)),
+        // Credit is 103,000 before it, and arrears are 100 after it.
+        on(701, bill(5, 103_100, 1, 1)),
+        // 300: 100 to arrears, 200 paid out.
+        on(730, reduction(6, 1)),
+        // 39,700 retained.
+        on(1_827, retention(7, 1)),
+    ]);
+    let expected = [
+        (2000, [0, 100_000, 10_000, 3]),
+        (2001, [103_100, 3_000, 200, 3]),
+        (2005, [0, 0, 0, 1]),
+    ];
+    years_are(&book, &expected);
+}
+
+#[test]
+fn years_of_entries_of_all_kinds() {
+    // Paid out: 12,000 of a refund, 200 of a reduction, 31,560 of a return.
+    let expected = [
+        (2000, [12_700, 9_000, 43_760, 10]),
+        (2001, [50, 0, 0, 2]),
+        (2005, [0, 0, 0, 1]),
+    ];
+    years_are(&book(&of_all_kinds()), &expected);
+}
+
+#[test]
+fn refused_entries_count_nowhere() {
+    let start = [on(366, payment(1, 500)), on(10, at(6, payment(2, 40)))];
+    let expected = [(2000, [0, 40, 0, 1]), (2001, [0, 500, 0, 1])];
+    let offered = [
+        (on(366, late_charge(3, 70)), 1),
+        (on(36_525, payment(3, 70)), 4),
+        (on(366, payment(3, 0)), 5),
+        (on(366, no_day(3)), 30),
+        (on(366, payment(2, 70)), 6),
+        (on(366, correction(3, 2, 70)), 8),
+        (on(366, deposit_return(3)), 9),
+        (on(365, correction(3, 1, 70)), 10),
+    ];
+    let mut posted = book(&start);
+    for (raw, refusal) in offered {
+        refused(&mut posted, raw, refusal);
+    }
+    years_are(&posted, &expected);
+
+    let entries = offered.map(|(raw, _)| raw);
+    let mut carried = book(&start);
+    let mut results = [0; 8];
+    assert_eq!(carried.carry_over(&entries, &mut results[..7]), 22);
+    years_are(&carried, &expected);
+    assert_eq!(carried.carry_over(&entries, &mut results), 0);
+    assert_eq!(results, offered.map(|(_, refusal)| refusal));
+    years_are(&carried, &expected);
+
+    // The first two records count nowhere either.
+    let (loaded, refusal, record) = Book::load(&image_of(&[start[0], start[1], entries[6]]));
+    assert_eq!((refusal, record), (9, 3));
+    years_are(&loaded, &[]);
+}
+
+#[test]
+fn a_run_s_late_charges_count_with_the_bills_of_its_year() {
+    let mut book = owing(&[(5, 5_000), (7, 10_000)]);
+    let bills = (2000, [15_000, 0, 0, 2]);
+    opened(&mut book, (1, 366, 150));
+    assert_eq!(years(&book), [bills]);
+    stepped(&mut book);
+    assert_eq!(years(&book), [bills, (2001, [75, 0, 0, 1])]);
+    accepted(&mut book, on(366, payment(4, 5_000)));
+    refused(&mut book, on(366, correction(5, 1, 0)), 27);
+    assert_eq!(years(&book), [bills, (2001, [75, 5_000, 0, 2])]);
+    stepped(&mut book);
+    step_refused(&mut book, 28);
+    years_are(&book, &[bills, (2001, [225, 5_000, 0, 3])]);
+}
+
+#[test]
+fn late_charges_of_an_image_count_with_the_bills_of_their_year() {
+    let book = recorded(&[
+        on(365, late_charge(1, 100_000_000)),
+        on(366, late_charge(2, 0)),
+        on(366, bill(3, 40, 1, 1)),
+        on(730, late_charge(4, 7)),
+    ]);
+    years_are(
+        &book,
+        &[(2000, [100_000_000, 0, 0, 1]), (2001, [47, 0, 0, 3])],
+    );
+}
+
+#[test]
+fn bills_of_zero_days_served_in_an_image_count_as_entries_of_their_year() {
+    let start = [on(365, no_day(1)), on(366, no_day(2))];
+    let of_2001 = (2001, [0, 0, 0, 1]);
+    years_are(&recorded(&start), &[(2000, [0, 0, 0, 1]), of_2001]);
+    let corrected = [start[0], start[1], on(731, correction(3, 1, 700))];
+    let of_2002 = (2002, [0, 0, 0, 1]);
+    let expected = [(2000, [700, 0, 0, 1]), of_2001, of_2002];
+    years_are(&recorded(&corrected), &expected);
+}
+
+#[test]
+fn a_full_book_in_one_year() {
+    let entry_of = |serial| match serial % 2 {
+        0 => on(36_524, payment(serial, 100_000_000)),
+        _ => on(36_160, bill(serial, 100_000_000, 62, 62)),
+    };
+    let list: Vec<Raw> = (1..=1_024).map(entry_of).collect();
+    let mut book = book(&list);
+    let expected = [(2099, [51_200_000_000, 51_200_000_000, 0, 1_024])];
+    years_are(&book, &expected);
+    refused(&mut book, on(36_524, payment(1_025, 1)), 7);
+    years_are(&book, &expected);
+}
+
+/// Every year that has entries, summed over these.
+fn years_of(taken: &[Taken]) -> Vec<YearTotals> {
+    let years = 2000..=2099;
+    not_zero(years.map(|year| (year, year_totals(year, taken))))
+}
+
+/// A list of samples over so many times their days, with amounts of all sizes and
+/// payments corrected too.
+fn varied(seed: u64, times: u16) -> Vec<Raw> {
+    let mut list = samples::entries(seed);
+    for raw in &mut list {
+        raw.day *= times;
+        raw.amount = raw.amount * (raw.serial % 97 + 1) / 11;
+        if raw.kind == CORRECTION && raw.serial % 2 == 0 {
+            // In the lists a payment comes after each bill.
+            raw.named_serial += 1;
+        }
+    }
+    list
+}
+
+/// A book after a list with a run after every 50th entry, and what it accepted.
+fn taken_from(list: &[Raw]) -> (Book, Vec<Taken>) {
+    let mut book = Book::fresh();
+    let mut taken = Vec::new();
+    for raw in list {
+        let reply = book.post(raw);
+        if reply.refusal == 0 {
+            taken.push((*raw, reply.paid_out));
+        }
+        if raw.serial % 50 == 0 {
+            opened(&mut book, (2, raw.day, 150));
+            while book.clone().step().refusal == 0 {
+                taken.push((stepped(&mut book), 0));
+            }
+        }
+    }
+    (book, taken)
+}
+
+/// Whether one of these corrects the entry in another year than its own.
+fn corrected_in_another_year(named: &Raw, taken: &[Taken]) -> bool {
+    let mut corrections = taken.iter().filter(|(raw, _)| corrects(raw, named));
+    corrections.any(|(raw, _)| year_of(raw.day) != year_of(named.day))
+}
+
+#[test]
+fn kept_years_are_those_summed_over_the_entries() {
+    let mut met = BTreeSet::new();
+    for (seed, times) in (1..=10).flat_map(|seed| [(seed, 1), (seed, 7)]) {
+        let (book, taken) = taken_from(&varied(seed, times));
+        years_are(&book, &years_of(&taken));
+        met.extend(taken.iter().map(|(raw, _)| {
+            let in_another = corrected_in_another_year(raw, &taken);
+            (raw.kind, in_another)
+        }));
+    }
+    let mut expected: BTreeSet<(u8, bool)> = (CONTRIBUTION..=LAST_KIND)
+        .map(|kind| (kind, false))
+        .collect();
+    expected.extend([(BILL, true), (PAYMENT, true)]);
+    assert_eq!(met, expected);
 }

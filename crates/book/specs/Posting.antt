@@ -3,7 +3,7 @@ use Rattle.std.specs.Prelude.{ℕ, ◌+◌, cond, List, [], ◌∷◌, get_or, s
 use Rattle.measures.specs.Cents.{cents}
 use Rattle.measures.specs.declared.Cents.{Cents}
 use Rattle.entries.specs.Kinds.{kind_of, same_of}
-use Rattle.entries.specs.Data.{entry_of, points_at}
+use Rattle.entries.specs.Data.{no_entry, entry_of, points_at}
 use Rattle.entries.specs.declared.arrivals.Arrival.{Arrival}
 use Rattle.entries.specs.declared.arrivals.Arrival.TheVariants.{Recorded}
 use Rattle.entries.specs.declared.raw.Raw.{Raw}
@@ -12,6 +12,8 @@ use Rattle.entries.specs.declared.data.Entry.{Entry}
 use Rattle.rules.specs.Accounts.{no_account, with_newest_of}
 use Rattle.rules.specs.Answers.{PostingAnswer, posting_reply_of}
 use Rattle.changes.specs.Changes.{Decision}
+use Rattle.years.specs.Years.{posted_to, restated_to}
+use Rattle.years.specs.declared.Years.{Years}
 use Rattle.rules.specs.declared.accounts.Account.{Account}
 use Rattle.rules.specs.declared.answers.PostingReply.{PostingReply}
 use Rattle.changes.specs.declared.Link.{Link}
@@ -48,13 +50,26 @@ paid_of b r =
     (paid_over r.day (cents 0) (walk_of b.entries entries_most (account_at b r.account).newest))
     (cents 0)
 
+-- the book with other totals of the years
+abbrev pub with_years : Book → Years → Book
+with_years b ys = record { accounts = b.accounts; entries = b.entries; count = b.count; last = b.last; run = b.run; years = ys }
+
 -- with the named entry as it is afterwards
 abbrev pub entries_rewritten : Option Link → List Entry → List Entry
 entries_rewritten None es = es
 entries_rewritten (Some l) es = set es l.place l.entry
 
+-- with the named entry, one of es, as it is afterwards; unchanged where none is named
+abbrev pub years_restated : List Entry → Option Link → Years → Years
+years_restated es None ys = ys
+years_restated es (Some l) ys = let e = get_or es l.place no_entry in restated_to ys e.day.0 e.«data» l.entry.«data»
+
+-- an entry counts in its own year, and what it changes of the entry that it names in that one's
+unfoldable pub years_of : Book → Raw → Change → Years
+years_of b r c = years_restated b.entries c.named (posted_to b.years r.day c.«data» c.amounts.paid_out)
+
 -- The next entry gets the next number; its next index is the number of the account's previous entry;
--- its serial becomes its node's last; the entry that it names is rewritten.
+-- its serial becomes its node's last; the entry that it names is rewritten; the totals of their years take both on.
 unfoldable pub stored_of : Book → Raw → Change → Book
 stored_of b r c =
     record {
@@ -64,6 +79,7 @@ stored_of b r c =
       count = b.count + 1;
       last = after_of b.last r;
       run = b.run;
+      years = years_of b r c;
     }
 
 -- a refused entry leaves the book as it was

@@ -14,12 +14,13 @@ ghost use Rattle.book.specs.Runs.{arrival_of};
 ghost use Rattle.book.specs.Serials.{last_of, after_of};
 ghost use Rattle.book.specs.Chain.{slot_of, ends_of, links_of, walk_of, found_by, sought_in, paid_over};
 ghost use Rattle.book.specs.Refusals.{late_rows, check_entry_of};
-ghost use Rattle.book.specs.Posting.{account_at, decision_of, stored_of, posted_reply, enter_of, post_of};
+ghost use Rattle.book.specs.Posting.{account_at, decision_of, years_of, with_years, stored_of, posted_reply, enter_of, post_of};
 
 use changes::{Change, Decision, Link, naming_decision, own_decision};
 use entries::{Arrival, Entry, Incoming, Kind, Name, Raw, Refusal, refuse_if};
 use measures::{Cents, Day};
 use rules::{Accepted, Account, PostingAnswer, paid_within};
+use years::Years;
 
 // The last serial of each node, 0 where it has none.
 #[derive(Clone, Copy, Default)]
@@ -50,6 +51,8 @@ pub struct Book {
     pub entries: [Entry; Book::ENTRIES],
     // How many entries there are: they stand at the places before this one. Document 01 has the book's entry array.
     pub count: u16,
+    // What the entries of each calendar year come to.
+    pub years: Years,
 }
 
 // The next book beside the answer.
@@ -212,6 +215,7 @@ impl Book {
             count: 0,
             last: Serials::default(),
             run: None,
+            years: Years::fresh(),
         }
     }
 
@@ -285,12 +289,28 @@ impl Book {
         naming_decision(incoming, account, paid, link)
     }
 
+    // Counts an accepted entry in its year, and the entry that it names as it is afterwards in that one's.
+    #[tactic(auto, unfolding(crate::specs::Posting::years_of))]
+    fn count_in_years(&mut self, raw: Raw, change: Change)
+        requires { IfSome change.named (λ l. l.place < entries_most) }
+        ensures { self.new ≡ with_years self.old (years_of self.old raw change) }
+    {
+        self.years
+            .post(Day(raw.day), change.data, change.amounts.paid_out);
+        if let Some(link) = change.named {
+            let before = self.entries[link.place];
+            self.years.restate(before.day, before.data, link.entry.data);
+        }
+    }
+
     // Stores an accepted entry.
     #[tactic(auto, using(crate::proofs::ChainLaws::slot_inside), unfolding(crate::specs::Posting::stored_of))]
     fn store(&mut self, raw: Raw, change: Change)
         requires { (self.old.count < entries_most) × IfSome change.named (λ l. l.place < entries_most) }
         ensures { self.new ≡ stored_of self.old raw change }
     {
+        // First, as it reads the named entry as it was.
+        self.count_in_years(raw, change);
         let a = slot(raw.account);
         let newest = self.accounts[a].newest;
         self.entries[usize::from(self.count)] = raw.entry(newest, change.data);

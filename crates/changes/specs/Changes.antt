@@ -161,8 +161,3 @@ own_decision_of r k acc = decided_of (check_own_of r k acc) Err (Ok (own_change_
 -- and so is one that names the entry of a link
 unfoldable pub naming_decision_of : Raw → Kind → Account → Cents → Link → Decision
 naming_decision_of r k acc paid l = decided_of (check_naming_of r k l.entry) Err (Ok (naming_change_of r k acc paid l))
-
--- the named entry's data afterwards, unused where an entry names nothing
-unfoldable pub named_data_of : Option Link → Data
-named_data_of None = data'.Unused
-named_data_of (Some l) = l.entry.«data»

@@ -2,15 +2,13 @@
 #![tactic(auto)]
 
 ghost use Rattle.std.specs.Prelude.{◌≡◌};
-ghost use Rattle.years.specs.Years.{posted_in, restated_in};
-ghost use Rattle.changes.specs.Changes.{alone_of, naming_of, contribution_of, added_customer_of, bill_of, payment_of, deposit_of, deposit_return_of, expiry_of, correction_of, guarantee_of, reduction_of, retention_of, late_charge_of, own_change_of, naming_change_of, own_decision_of, naming_decision_of, named_data_of};
+ghost use Rattle.changes.specs.Changes.{alone_of, naming_of, contribution_of, added_customer_of, bill_of, payment_of, deposit_of, deposit_return_of, expiry_of, correction_of, guarantee_of, reduction_of, retention_of, late_charge_of, own_change_of, naming_change_of, own_decision_of, naming_decision_of};
 
 use entries::{Data, Entry, Incoming, Kind, Raw, Refusal};
 use measures::{Cents, Day, Metres};
 use rules::{
     Account, Amounts, Credited, billed, check_naming, check_own, given_back, interest, refund,
 };
-use years::Year;
 
 // An entry, and its place in the book's array.
 #[derive(Clone, Copy)]
@@ -59,31 +57,6 @@ impl Change {
             named: Some(named),
             amounts,
         }
-    }
-
-    // The totals of the new entry's year afterwards.
-    pub fn year(self, year: Year) -> Year
-        ensures { result ≡ posted_in year self.«data» self.amounts.paid_out }
-    {
-        year.posted(self.data, self.amounts.paid_out)
-    }
-
-    // The named entry's data afterwards, unused where the entry names nothing.
-    #[tactic(auto, unfolding(crate::specs::Changes::named_data_of))]
-    fn named_data(self) -> Data
-        ensures { result ≡ named_data_of self.named }
-    {
-        match self.named {
-            Some(after) => after.entry.data,
-            None => Data::Unused,
-        }
-    }
-
-    // The totals of the named entry's year afterwards, where it was `named` before.
-    pub fn named_year(self, year: Year, named: Entry) -> Year
-        ensures { result ≡ restated_in year named.«data» (named_data_of self.named) }
-    {
-        year.restated(named.data, self.named_data())
     }
 }
 

@@ -7,7 +7,7 @@ use carry::carry_over;
 use entries::{Raw, Refusal, refusal_of};
 use loads::load;
 use pages::page;
-use queries::{ContributionReply, StatementReply, contribution_query, statement};
+use queries::{ContributionReply, StatementReply, contribution_query, statement, year_totals};
 use rules::{PostingAnswer, PostingReply};
 use runs::{close_run, open_run, step};
 use saves::save;
@@ -67,6 +67,7 @@ impl<'a, P: Print> Session<'a, P> {
                 node,
                 serial,
             } => self.contribution(account, node, serial),
+            Call::Year(year) => self.year(year),
             Call::Page { account, room } => self.page(account, room),
             Call::Save(room) => self.save(room),
             Call::Load(room) => self.load(room),
@@ -174,6 +175,15 @@ impl<'a, P: Print> Session<'a, P> {
             r.retained,
             r.added,
             u8::from(r.closed),
+        )
+    }
+
+    // No refusal stops it.
+    fn year(&self, year: u16) -> io::Result<()> {
+        let totals = year_totals(self.book(), year);
+        println!(self.rt;
+            "y 0 {} {} {} {}",
+            totals.bills.0, totals.payments.0, totals.paid_out.0, totals.entries,
         )
     }
 

@@ -4,7 +4,7 @@
 ghost use Rattle.std.specs.Prelude.{◌≡◌};
 ghost use Rattle.loads.specs.Loads.{load_of};
 ghost use Rattle.image_read.specs.Checks.{check_given};
-ghost use Rattle.image_read.specs.Reads.{statement_image, contribution_image};
+ghost use Rattle.image_read.specs.Reads.{statement_image, contribution_image, year_image};
 ghost use Rattle.image_page.specs.Pages.{page_image};
 ghost use Rattle.image_post.specs.Postings.{post_image};
 ghost use Rattle.image_carry.specs.Carries.{carry_image};
@@ -13,7 +13,8 @@ use image_carry::{CarryGiven, carry_image};
 use image_page::{PageGiven, page_image};
 use image_post::{PostingGiven, post_image};
 use image_read::{
-    CheckGiven, ContributionGiven, StatementGiven, check_image, contribution_image, statement_image,
+    CheckGiven, ContributionGiven, StatementGiven, YearGiven, check_image, contribution_image,
+    statement_image, year_image,
 };
 
 // Checks an image, and counts its entries.
@@ -59,6 +60,13 @@ pub fn contribution_book_contribution(
     ensures { result ≡ contribution_image (load_of image.now) account node serial }
 {
     contribution_image(image, account, node, serial)
+}
+
+// The totals of a calendar year of an image.
+pub fn contribution_book_year(image: &[u8], year: u16) -> YearGiven
+    ensures { result ≡ year_image (load_of image.now) year }
+{
+    year_image(image, year)
 }
 
 // The page of an account of an image.

@@ -4,7 +4,7 @@
 ghost use Rattle.std.specs.Prelude.{◌≡◌};
 ghost use Rattle.loads.specs.Loads.{load_of};
 ghost use Rattle.image_read.specs.Checks.{check_given};
-ghost use Rattle.image_read.specs.Reads.{statement_image, contribution_image};
+ghost use Rattle.image_read.specs.Reads.{statement_image, contribution_image, year_image};
 ghost use Rattle.image_page.specs.Pages.{page_image};
 ghost use Rattle.image_post.specs.Postings.{post_image};
 ghost use Rattle.image_carry.specs.Carries.{carry_image};
@@ -12,7 +12,7 @@ ghost use Rattle.image_carry.specs.Carries.{carry_image};
 use image_carry::CarryGiven;
 use image_page::PageGiven;
 use image_post::PostingGiven;
-use image_read::{CheckGiven, ContributionGiven, StatementGiven};
+use image_read::{CheckGiven, ContributionGiven, StatementGiven, YearGiven};
 
 // Checks an image, and counts its entries.
 #[unsafe(no_mangle)]
@@ -70,6 +70,14 @@ pub extern "C" fn contribution_book_contribution(
     ensures { result ≡ contribution_image (load_of image.now) account node serial }
 {
     contribution_book::contribution_book_contribution(image, account, node, serial)
+}
+
+// The totals of a calendar year of an image.
+#[unsafe(no_mangle)]
+pub extern "C" fn contribution_book_year(image: &[u8], year: u16) -> YearGiven
+    ensures { result ≡ year_image (load_of image.now) year }
+{
+    contribution_book::contribution_book_year(image, year)
 }
 
 // The page of an account of an image.

@@ -32,15 +32,18 @@ use Rattle.book.specs.Chain.{slot_of, link_of}
 use Rattle.book.specs.declared.Found.TheVariants.{At}
 use Rattle.book.proofs.ChainLaws.{found_entry}
 use Rattle.book.specs.Refusals.{entry_rows}
-use Rattle.book.specs.Posting.{account_at, lookup_of, paid_of, entries_rewritten, stored_of, decided_book, decision_of, answer_of, enter_of}
+use Rattle.book.specs.Posting.{account_at, lookup_of, paid_of, entries_rewritten, years_restated, years_of, stored_of, decided_book, decision_of, answer_of, enter_of}
 use Rattle.book.specs.declared.Book.{Book}
 use Rattle.book.specs.declared.Serials.{Serials}
 use Rattle.queries.specs.Chain.{walk_at}
+use Rattle.years.specs.Years.{years_most, no_year, posted_to, restated_to}
+use Rattle.years.specs.declared.Years.{Years}
 use Rattle.entries.proofs.RefusalsLaws.{refusal_above}
 use Rattle.history.specs.History.{History, accounts, entries, last_serial, naming, Target, absent, present, find, named, filter, sum, posted_fate, fate_after, fate, paid_by, guarantee_open, target_entry, target_fate, Balance, move_of, moved, move_by, balance, Amounts, amounts_by, amounts, judge_by, judge, joined, offer, replied_by, replied_of, added_up, to_arrears, refunds_paid}
 use Rattle.history.specs.Laws.{Valid, empty, joins}
+use Rattle.history.specs.Years.{year_in}
 use Rattle.history.specs.Images.{newest_of}
-use Rattle.history.specs.Agreement.{kept_account, account_in, kept_data, data_in, kept_entry, kept_walk, Placed, start, more, Agrees, Kept, Agreement}
+use Rattle.history.specs.Agreement.{kept_account, account_in, kept_data, data_in, kept_entry, kept_walk, Placed, start, more, YearsKept, Agrees, Kept, Agreement}
 use Rattle.history.proofs.Accept.{accepts, recorded, fits, named_none, Role, alone, upon, role, named_at_lem, move_upon}
 use Rattle.history.proofs.Names.{hit, fate_new, given_new, misses_kind, hits, names_points, fate_hit}
 use Rattle.history.proofs.Conserve.{divide}
@@ -50,6 +53,7 @@ use Rattle.history.proofs.Tables.{rows, effect, one_table, check_same}
 use Rattle.history.proofs.Search.{walk, found_at, lookup_same, paid_same, state_same, last_same}
 use Rattle.history.proofs.Effects.{change_by, own_effect, naming_effect}
 use Rattle.history.proofs.Stored.{slot_at, rows_past, rows_miss, rows_hit}
+use Rattle.history.proofs.Years.{years_alone, years_upon}
 
 -- THE REFUSAL
 module _ (way : Arrival) {b : Book} {h : History} (w : Agrees b h) (v : Valid h) (r : Raw) where
@@ -237,6 +241,18 @@ module _ {b : Book} {h : History} (w : Agrees b h) (v : Valid h) (r : Raw) (j : 
           λ q. other (omega (arith, slot_at r.account p.account_low p.account_high, slot_at a l m, p.account_low)) in
           get_or-set_other b.accounts (slot_of r.account) (slot_of a) new no_account apart ∙ w.account a l m ∙ sym (account_else a e)
 
+  -- its years
+  years_stored : Role h r → YearsKept next.years.0 (year_in (r ∷ h))
+  unfolding stored_of years_of posted_to restated_to amounts entry_of with_of
+  years_stored (alone n) = rw (named_none h r n) (years_alone v r j b.years.0 w.years_long w.years n)
+  years_stored (upon n i e f s) =
+      rw (named_at_lem h r n i e f, ← entry_at n i e f) (years_upon v r j b.years.0 w.years_long w.years n i e f)
+
+  long_restated : (es : List Entry) (named : Option Link) (years : Years) → length (years_restated es named years).0 ≡ length years.0
+  unfolding restated_to
+  long_restated es None years = refl
+  long_restated es (Some l) years = length-set years.0 _ _
+
   -- its last serials
   last_1_after : (t : Bool) → (cond {A = Serials} t (record { node_1 = r.serial; node_2 = b.last.node_2 }) (record { node_1 = b.last.node_1; node_2 = r.serial })).node_1 ≡
       cond t r.serial (last_serial h 1)
@@ -255,7 +271,7 @@ module _ {b : Book} {h : History} (w : Agrees b h) (v : Valid h) (r : Raw) (j : 
       absurd (omega (arith, (accepts h r j).node_low, (accepts h r j).node_high))
 
   pub agree_step : Agrees next (r ∷ h)
-  unfolding stored_of after_of last_serial
+  unfolding stored_of years_of posted_to after_of last_serial
   agree_step =
       record {
         accounts_long = rw length-set w.accounts_long;
@@ -266,6 +282,8 @@ module _ {b : Book} {h : History} (w : Agrees b h) (v : Valid h) (r : Raw) (j : 
         account = account_after;
         rows = rw entries_after (rows_stored (role h r j));
         unused = λ n l. rw entries_after (unused_stored (role h r j) n (omega arith));
+        years_long = rw (long_restated, length-set) w.years_long;
+        years = years_stored (role h r j);
       }
 
 -- THE AGREEMENT
@@ -275,7 +293,7 @@ no_entry_lem (suc n) zero = refl
 no_entry_lem (suc n) (suc i) = no_entry_lem n i
 
 fresh_agrees : Agrees fresh_book []
-unfolding fresh_book newest_of balance last_serial sum filter
+unfolding fresh_book newest_of balance last_serial sum filter year_in added_up
 fresh_agrees =
     record {
       accounts_long = length-replicate accounts no_account;
@@ -286,6 +304,8 @@ fresh_agrees =
       account = λ a l m. get_or-replicate accounts (slot_of a) no_account no_account (omega (arith, slot_at a l m));
       rows = start;
       unused = λ i l. no_entry_lem entries i;
+      years_long = length-replicate years_most no_year;
+      years = λ y l. get_or-replicate years_most y no_year no_year l;
     }
 
 module _ (way : Arrival) (b : Book) (h : History) (w : Kept b h) (r : Raw) where

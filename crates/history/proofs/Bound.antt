@@ -1,6 +1,6 @@
 -- How large the numbers of a history can grow: far below the limits of the book's sums.
 use mathlib.Core.Path.{◌≡◌, subst}
-use Prim.Native.Nat.{ℕ, zero, suc, ◌-◌, ◌*◌, ◌≤◌}
+use Prim.Native.Nat.{ℕ, zero, suc, ◌+◌, ◌-◌, ◌*◌, ◌≤◌}
 use native.Mathlib.Omega.{arith}
 use native.Mathlib.Nat.{mul-le-mul, div-le_self}
 use mathlib.Core.Bool.{Bool, true, false, cond}
@@ -15,7 +15,7 @@ use Rattle.entries.specs.declared.kinds.Kind.{Kind}
 use Rattle.entries.specs.declared.kinds.Kind.TheVariants as kind
 use Rattle.entries.proofs.KindsLaws.{every_kind, no_kind}
 use Rattle.rules.specs.Formulas.{billed, interest}
-use Rattle.history.specs.History.{History, named, filter, entries_of, Fate, Reading, sum, in_window, paid_until, fate, total, paid_by, target_entry, target_fate, Balance, move_of, moved, move_by, balance, judge, last_day}
+use Rattle.history.specs.History.{History, named, filter, on_account, Fate, Reading, sum, in_window, paid_until, fate, total, paid_by, target_entry, target_fate, Balance, move_of, moved, move_by, balance, amounts_by, amounts, judge, last_day}
 use Rattle.history.specs.Laws.{Valid, empty, joins, In, newest, older}
 use Rattle.history.proofs.Accept.{FieldsInRange, accepts, Role, alone, upon, named_none, named_at_lem, role}
 use Rattle.history.proofs.Names.{hit, fate_cases}
@@ -42,8 +42,9 @@ billed_small charge served days c s =
     let p : charge * served ≤ amount_most * bill_period_most = mul-le-mul c s in
     omega (arith, rounded_most (charge * served) days, div-le_self (charge * served) days)
 
-pub interest_small : (deposit rate days : ℕ) → deposit ≤ amount_most → rate ≤ rate_most → days ≤ last_day → interest deposit rate days ≤ large
-interest_small deposit rate days d r t =
+-- what a return gives back: a deposit and its interest
+pub return_small : (deposit rate days : ℕ) → deposit ≤ amount_most → rate ≤ rate_most → days ≤ last_day → deposit + interest deposit rate days ≤ large
+return_small deposit rate days d r t =
     let p : deposit * rate ≤ amount_most * rate_most = mul-le-mul d r in
     let q : deposit * rate * days ≤ amount_most * rate_most * last_day = mul-le-mul p t in
     omega (arith, rounded_most (deposit * rate * days) 3650000)
@@ -84,13 +85,13 @@ pub some_small : (t : Bool) (x : ℕ) → x ≤ large → cond t x 0 ≤ large
 some_small t x l = either_small t x 0 l (omega arith)
 
 module _ (f : Reading) (all : History) where
-  pub total_small : (a : ℕ) → ((e : Raw) → FieldsInRange e (kind_of e.kind) → f (kind_of e.kind) e (fate all e) ≤ large) → {h : History} → Valid h →
-      total f all (entries_of h a) ≤ large * length h
+  pub total_small : (p : Raw → Bool) → ((e : Raw) → FieldsInRange e (kind_of e.kind) → f (kind_of e.kind) e (fate all e) ≤ large) → {h : History} → Valid h →
+      total f all (filter p h) ≤ large * length h
   unfolding sum filter
-  total_small a small empty = omega arith
-  total_small a small (joins {r} {h} v j) =
+  total_small p small empty = omega arith
+  total_small p small (joins {r} {h} v j) =
       rw total_filter
-      (omega (arith, total_small a small v, some_small (eqb r.account a) (f (kind_of r.kind) r (fate all r)) (small r (accepts h r j).ranges)))
+      (omega (arith, total_small p small v, some_small (p r) (f (kind_of r.kind) r (fate all r)) (small r (accepts h r j).ranges)))
 
   pub taken_small : (n : ℕ) (es : History) → total f all (take n es) ≤ total f all es
   unfolding sum
@@ -99,7 +100,7 @@ module _ (f : Reading) (all : History) where
   taken_small (suc n) (e ∷ es) = omega (arith, taken_small n es)
 
 pub paid_small : {h : History} → Valid h → (c : Raw) → paid_by h c ≤ large * length h
-paid_small {h} v c = total_small (paid_until c.day) h c.account (λ e s. some_small (in_window c.day (kind_of e.kind) e) (fate h e).standing (standing_small v e s)) v
+paid_small {h} v c = total_small (paid_until c.day) h (on_account c.account) (λ e s. some_small (in_window c.day (kind_of e.kind) e) (fate h e).standing (standing_small v e s)) v
 
 -- an account's amounts
 pub record Small (n : ℕ) (b : Balance) : Type 0 where
@@ -110,7 +111,7 @@ pub record Small (n : ℕ) (b : Balance) : Type 0 where
 
 -- no move of an entry in range takes them further
 module _ (r e : Raw) (paid : ℕ) (f : Fate) (b : Balance) (l : Kind) (n : ℕ) (w : Small n b) (m : r.amount ≤ amount_most) where
-  moved_amounts : billed r.amount r.b r.a ≤ large → interest b.deposit b.rate (r.day - b.deposited) ≤ large → f.standing ≤ large → (k : Kind) →
+  moved_amounts : billed r.amount r.b r.a ≤ large → b.deposit + interest b.deposit b.rate (r.day - b.deposited) ≤ large → f.standing ≤ large → (k : Kind) →
       let c = moved (move_of k l r b e paid f) b in (c.arrears ≤ large * suc n) × (c.credit ≤ large * suc n)
   moved_amounts p i s =
       let bill = same_of l kind.Bill in
@@ -123,7 +124,15 @@ module _ (r e : Raw) (paid : ℕ) (f : Fate) (b : Balance) (l : Kind) (n : ℕ) 
   unfolding limits_of
   moved_rate = every_kind _ (omega arith)
 
+  -- and none pays out more than is held of what it names, or the deposit with its interest
+  pays_small : b.deposit + interest b.deposit b.rate (r.day - b.deposited) ≤ large → f.held ≤ amount_most → (k : Kind) → (amounts_by (move_of k l r b e paid f) b).paid_out ≤ large
+  pays_small i h = every_kind _ (omega arith)
+
 module _ {h : History} (v : Valid h) (r : Raw) (j : judge h r ≡ 0) where
+  named_held : Role h r → (target_fate h (named h r)).held ≤ amount_most
+  named_held (alone n) = rw (named_none h r n) (omega arith)
+  named_held (upon n i e q s) = rw (named_at_lem h r n i e q) (omega (arith, held_small h e, (in_ranges v e (hit v r i e q).member).amount))
+
   named_small : Role h r → (target_fate h (named h r)).standing ≤ large
   named_small (alone n) = rw (named_none h r n, no_kind) (omega arith)
   named_small (upon n i e q s) = rw (named_at_lem h r n i e q) (standing_small v e (in_ranges v e (hit v r i e q).member))
@@ -143,7 +152,7 @@ bounded (joins {r} {h} v j) a = go (bounded v a) (eqb r.account a)
         let f = target_fate h (named h r) in
         let amounts =
         moved_amounts r e paid f b (kind_of e.kind) (length h) w s.amount (billed_small r.amount r.b r.a s.amount s.b)
-        (interest_small b.deposit b.rate (r.day - b.deposited) w.deposit w.rate (omega (arith, p.day))) (named_small v r j (role h r j)) (kind_of r.kind) in
+        (return_small b.deposit b.rate (r.day - b.deposited) w.deposit w.rate (omega (arith, p.day))) (named_small v r j (role h r j)) (kind_of r.kind) in
         record {
           arrears = amounts.0;
           credit = amounts.1;
@@ -151,3 +160,14 @@ bounded (joins {r} {h} v j) a = go (bounded v a) (eqb r.account a)
           rate = moved_rate r e paid f b (kind_of e.kind) (length h) w s.amount (kind_of r.kind) s.by_kind.a.1;
         }
     go w false = omega arith
+
+-- what an entry pays out
+pub paid_out_small : {h : History} → Valid h → (r : Raw) → judge h r ≡ 0 → (amounts h r).paid_out ≤ large
+unfolding amounts move_by
+paid_out_small {h} v r j =
+    let b = balance h r.account in
+    let w = bounded v r.account in
+    let p = accepts h r j in
+    let e = target_entry (named h r) in
+    pays_small r e (paid_by h r) (target_fate h (named h r)) b (kind_of e.kind) (length h) w p.ranges.amount
+    (return_small b.deposit b.rate (r.day - b.deposited) w.deposit w.rate (omega (arith, p.day))) (named_held v r j (role h r j)) (kind_of r.kind)

@@ -7,6 +7,7 @@ use mathlib.Core.Bool.{true, cond, not, ◌&&◌, true≢false}
 use mathlib.Core.List.{List, [], ◌∷◌, ◌++◌}
 use lib.ListN.{length, take, drop}
 use lib.Seq.{take_all, take_at, drop_at}
+use lib.Dec.{eqb}
 use borrow.Author.Tests.{leb-true, le-leb, lt-leb, le-ltb}
 use Rattle.measures.specs.Cents.{most}
 use Rattle.measures.specs.Rounding.{rounded}
@@ -21,14 +22,16 @@ use Rattle.book.specs.declared.Book.{Book}
 use Rattle.queries.specs.Chain.{chain_at, total_of}
 use Rattle.queries.specs.Chain as chains
 use Rattle.queries.specs.Statements.{statement_of}
+use Rattle.years.specs.Years.{totals_of}
 use Rattle.queries.specs.declared.statements.StatementReply.{StatementReply}
 use Rattle.pages.specs.Rows.{page_rows, AllLines}
 use Rattle.pages.specs.Pages.{page_of}
 use Rattle.saves.specs.Saves.{image_of}
 use Rattle.loads.specs.Loaded.{accepted_load}
 use Rattle.loads.specs.Loads.{load_of}
-use Rattle.history.specs.History.{History, accounts, entries, answers_along, last_serial, points, fate, total, amounts, entries_of, settled_by, paid_out_by, to_arrears, refunds_paid, customers, paid_by}
+use Rattle.history.specs.History.{History, accounts, entries, answers_along, last_serial, points, filter, fate, total, Amounts, amounts, added_up, entries_of, settled_by, paid_out_by, to_arrears, refunds_paid, customers, paid_by}
 use Rattle.history.specs.Laws.{In, newest, older, AccountSums, sums_of, Refunds, Reduces, Once, Each, HasContribution}
+use Rattle.history.specs.Years.{in_year, year_in}
 use Rattle.history.specs.Queries.{statement_by, statement_in, entry_lines_in, page_text_in, page_in}
 use Rattle.history.specs.Runs.{Noted, State}
 use Rattle.history.specs.Agreement.{Kept, RunKept}
@@ -37,6 +40,7 @@ use Rattle.history.specs.Claim.{call_of, book_after, answers_of, guarantee_held_
 use Rattle.history.specs.Trips.{history_in}
 use Rattle.history.specs.Witness.{calls, answers}
 use Rattle.history.specs.RunFigures as counter
+use Rattle.history.specs.YearFigures as years
 use Rattle.history.specs.NoDayFigures as NoDay
 use Rattle.history.proofs.Tests.{tested}
 use Rattle.history.proofs.Queries.{statement_same}
@@ -45,6 +49,7 @@ use Rattle.history.proofs.Claim.{demand3}
 use Rattle.history.proofs.Witness.{witnessed}
 use Rattle.history.proofs.Trips.{trips, demand3_loaded}
 use Rattle.history.proofs.RunFigures.{run_figures}
+use Rattle.history.proofs.YearFigures.{year_figures}
 use Rattle.history.proofs.NoDayFigures.{image_bytes, calls_typed, run_over, no_day_figures}
 
 middle : (x : History) (e : Raw) (y : History) → In e (x ++ e ∷ y)
@@ -85,6 +90,15 @@ module _ {start : Book} {s : State} {cs : List Call} (claim : Claim start s cs) 
       ≡ x.bills + x.paid_out + x.retained + total_of chains.held_of (chain_at b a) + (account_at b a).deposit.0 + total_of guarantee_held_of (chain_at b a) + (account_at b a).credit.0
   conserved a l m =
       omega (arith, claim.lawful.conserved a, claim.arrears a l m, claim.credit a l m, claim.deposit a l m, claim.held a l m, claim.guarantee_held a l m)
+
+  -- the totals that the book keeps of a calendar year, which every query of it gives, are those of the entries dated in it: bills with late
+  -- charges and payments as they stand after the calls, what these entries paid out, and how many they are
+  yearly : (year : ℕ) → let x = totals_of b.years year in let es = filter (λ (r : Raw). eqb (date_of r.day).year year) h in
+      (x.bills.0 ≡ total (λ k e f. cond (same_of k kind.Bill) f.standing 0 + cond (same_of k kind.LateCharge) e.amount 0) h es) ×
+      (x.payments.0 ≡ total (λ k e f. cond (same_of k kind.Payment) f.standing 0) h es) ×
+      (x.paid_out.0 ≡ added_up (λ (a : Amounts). a.paid_out) (λ (r : Raw). eqb (date_of r.day).year year) h) × (x.entries ≡ length es)
+  unfolding year_in in_year
+  yearly year = rw (claim.years year) (refl, refl, refl, refl)
 
   -- and with those of every complete statement
   balanced : (a n : ℕ) → (statement_of b a n).complete ≡ true → Balances (sums_of h a) (statement_of b a n)
@@ -161,6 +175,10 @@ module _ {start : Book} {s : State} {cs : List Call} (claim : Claim start s cs) 
   counted_payments : (c : Raw) → paid_by h c < most
   counted_payments c = omega (arith, claim.bounded.paid c)
 
+  -- nor does a year's total
+  small_years : (year : ℕ) → let x = totals_of b.years year in (x.bills.0 < most) × (x.payments.0 < most) × (x.paid_out.0 < most) × (x.entries < 65535)
+  small_years year = rw (claim.years year) (let w = claim.bounded.years year in omega arith)
+
   counts : (e : Raw) → (b.count ≤ entries) × ((fate h e).added < 65535)
   counts e = omega (arith, claim.kept.agrees.counted, claim.bounded.room, claim.bounded.added e)
 
@@ -218,6 +236,10 @@ shown = answered (fresh_claim calls) ∙ witnessed.answered
 -- to that of a run
 run_shown : answers_of counter.calls ≡ counter.answers
 run_shown = answered (fresh_claim counter.calls) ∙ run_figures.answered
+
+-- to that of calendar years
+year_shown : answers_of years.calls ≡ years.answers
+year_shown = answered (fresh_claim years.calls) ∙ year_figures.answered
 
 -- to that on the book of an image with bills of zero days served
 no_day_shown : answers_along call_of (load_of NoDay.image).book NoDay.calls ≡ NoDay.answers

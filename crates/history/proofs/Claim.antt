@@ -18,7 +18,7 @@ use Rattle.history.specs.History.{History, answers_along, held_of, held_amount, 
 use Rattle.history.specs.Laws.{In}
 use Rattle.history.specs.Runs.{State, arrival_in}
 use Rattle.history.specs.Agreement.{kept_entry, over, KeptState}
-use Rattle.history.specs.Queries.{Query, statement, contribution, page, save, stated, given, paged, saved, save_in, query_in}
+use Rattle.history.specs.Queries.{Query, statement, contribution, page, year, save, stated, given, paged, totalled, saved, save_in, query_in}
 use Rattle.history.specs.Calls.{Call, posting, carry_over, opening, step, close, query, posted, ran, queried, call_in, state_from, state_after, history_after}
 use Rattle.history.specs.Claim.{query_of, call_of, book_after, guarantee_held_of, Claim, Demand3}
 use Rattle.history.proofs.Laws.{laws}
@@ -30,7 +30,7 @@ use Rattle.history.proofs.Runs.{open_same, arrival_same, kept_with, opening_same
 use Rattle.history.proofs.Calls.{lists_same, along}
 use Rattle.history.proofs.Images.{save_same, saved_same}
 use Rattle.saves.proofs.Saves.{save_in_run}
-use Rattle.history.proofs.Queries.{chain_reads, reads_total, held_read, statement_same, contribution_same}
+use Rattle.history.proofs.Queries.{chain_reads, reads_total, held_read, statement_same, contribution_same, year_same}
 use Rattle.history.proofs.Pages.{page_same}
 
 -- a query on a book that keeps a state answers as the history
@@ -39,6 +39,7 @@ unfolding query_of query_in
 query_same w (statement account allowance) = ap stated (statement_same w.history account allowance)
 query_same w (contribution account node serial) = ap given (contribution_same w.history account node serial)
 query_same w (page account buffer) = ap paged (page_same w.history account buffer)
+query_same w (year y) = ap totalled (year_same w.history y)
 query_same {b} {s} w (save buffer) = rw (← open_same w.run) (go (is_some b.run) refl)
   where
     go : (t : Bool) → is_some b.run ≡ t → saved (save_of b buffer).refusal (save_of b buffer).bytes (saved_in b buffer) ≡ save_in t s.entries buffer
@@ -85,6 +86,7 @@ claim {b} {s} v cs =
       deposit = λ a l m. ap (λ (x : Account). x.deposit.0) (w.agrees.account a l m);
       held = λ a l m. rw (agreement.chain (book_after b cs) h w a l m) (reads_total chains.held_of held_amount h (held_read h) (chain_reads h h a));
       guarantee_held = λ a l m. rw (agreement.chain (book_after b cs) h w a l m) (reads_total guarantee_held_of (held_of kind.Guarantee) h (guarantee_read h) (chain_reads h h a));
+      years = year_same w;
       kept = w;
       run = k.run;
       lawful = laws.lawful h w.valid;

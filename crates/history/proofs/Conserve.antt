@@ -129,16 +129,23 @@ module _ {h : History} (v : Valid h) (r : Raw) (j : judge h r ≡ 0) where
   abbrev on : ℕ → ℕ → ℕ
   on a x = cond (eqb r.account a) x 0
 
-  -- an account's sum after an entry that names nothing, and after one that does
+  -- a sum over the entries that pass a test, after an entry that names nothing, and after one that does
+  pub plain_over : naming k ≡ false → (p : Raw → Bool) (f : Reading) → total f (r ∷ h) (filter p (r ∷ h)) ≡ cond (p r) (f k r (posted_fate r)) 0 + total f h (filter p h)
+  plain_over n p f = rw (total_filter, total_miss f r h p (misses_kind r n h), fate_new v r j)
+
+  pub named_over : naming k ≡ true → (i : ℕ) (e : Raw) → find h r ≡ present i e → (p : Raw → Bool) (f : Reading) →
+      total f (r ∷ h) (filter p (r ∷ h)) + cond (p e) (f (kind_of e.kind) e (fate h e)) 0 ≡
+      cond (p r) (f k r (posted_fate r)) 0 + total f h (filter p h) + cond (p e) (f (kind_of e.kind) e (fate_after k r e (paid_by h r) (fate h e))) 0
+  named_over n i e q p f = rw (total_filter, fate_new v r j) (omega (arith, total_hit f r h p (hits v r i e n q)))
+
+  -- an account's sum: what is named is of the same account
   pub plain_sum : naming k ≡ false → (a : ℕ) (f : Reading) → total f (r ∷ h) (entries_of (r ∷ h) a) ≡ on a (f k r (posted_fate r)) + total f h (entries_of h a)
-  plain_sum n a f = rw (total_filter, total_miss f r h (on_account a) (misses_kind r n h), fate_new v r j)
+  plain_sum n a f = plain_over n (on_account a) f
 
   pub named_sum : naming k ≡ true → (i : ℕ) (e : Raw) → find h r ≡ present i e → (a : ℕ) (f : Reading) →
       total f (r ∷ h) (entries_of (r ∷ h) a) + on a (f (kind_of e.kind) e (fate h e)) ≡
       on a (f k r (posted_fate r)) + total f h (entries_of h a) + on a (f (kind_of e.kind) e (fate_after k r e (paid_by h r) (fate h e)))
-  named_sum n i e q a f =
-      let old = rw (ap (λ (x : ℕ). eqb x a) (pointed r e (hit v r i e q).aimed).account) at (total_hit f r h (on_account a) (hits v r i e n q)) in
-      rw (total_filter, fate_new v r j) (omega arith)
+  named_sum n i e q a f = rw (ap (λ (x : ℕ). eqb x a) (pointed r e (hit v r i e q).aimed).account) at (named_over n i e q (on_account a) f)
 
   -- another account's sums stay
   pub still : (a : ℕ) → eqb r.account a ≡ false → Role h r → (f : Reading) → total f (r ∷ h) (entries_of (r ∷ h) a) ≡ total f h (entries_of h a)

@@ -14,6 +14,7 @@ use Rattle.book.specs.declared.Book.{Book}
 use Rattle.std.specs.Prelude.{None}
 use Rattle.book.specs.Chain.{slot_of}
 use Rattle.runs.specs.Runs.{without_run}
+use Rattle.years.specs.Years.{years_most, no_year}
 use Rattle.history.specs.History.{History, accounts}
 use Rattle.history.specs.Agreement.{Placed, start, more, Agrees, Determined}
 use Rattle.history.proofs.Tests.{tested}
@@ -34,6 +35,7 @@ whole b =
       count = b.count;
       last = record { node_1 = b.last.node_1; node_2 = b.last.node_2 };
       run = None;
+      years = record { 0 = b.years.0 };
     }
 
 module _ {b c : Book} {h : History} (v : Agrees b h) (w : Agrees c h) where
@@ -52,8 +54,13 @@ module _ {b c : Book} {h : History} (v : Agrees b h) (w : Agrees c h) where
           let p : slot_of (i + 1) ≡ i = omega (arith, slot_at (i + 1) (omega arith) (omega arith)) in
           rw p at (v.account (i + 1) (omega arith) (omega arith) ∙ sym (w.account (i + 1) (omega arith) (omega arith)))
 
+  years_same : b.years.0 ≡ c.years.0
+  years_same =
+      ext_get_or no_year b.years.0 c.years.0 (v.years_long ∙ sym w.years_long)
+      (λ y l. let m : y < years_most = omega (arith, v.years_long) in v.years y m ∙ sym (w.years y m))
+
   same : whole b ≡ whole c
-  same = cc (entries_same, accounts_same)
+  same = cc (entries_same, accounts_same, years_same)
 
 pub determined : Determined
 unfolding without_run

@@ -34,7 +34,7 @@ use Rattle.history.specs.Agreement.{kept_account, kept_data}
 use Rattle.history.proofs.Accept.{FieldsInRange, upon_cases}
 use Rattle.history.proofs.Conserve.{posted_as}
 use Rattle.history.proofs.Open.{open_after}
-use Rattle.history.proofs.Bound.{large, Small, billed_small, interest_small}
+use Rattle.history.proofs.Bound.{large, Small, billed_small, return_small}
 
 abbrev pub kept_amounts : Amounts → four'.Amounts
 kept_amounts x = amounts_of (cents x.settled) (cents x.paid_out) (cents x.retained) (cents x.interest)
@@ -101,7 +101,7 @@ module _ (r : Raw) (b : Balance) (guarantee : Bool) (newest n : ℕ) (w : Small 
   own_effect l e sum f kind.Deposit a u s d = refl
   own_effect l e sum f kind.DepositReturn a u s d =
       let since = r.day - b.deposited in
-      let small = interest_small b.deposit b.rate since w.deposit w.rate (omega arith) in
+      let small = return_small b.deposit b.rate since w.deposit w.rate (omega arith) in
       rw (plain.deposit_return b.deposit b.rate since w.deposit w.rate (omega arith), fits (b.deposit + interest b.deposit b.rate since) (omega arith)) refl
   own_effect l e sum f kind.Expiry a u s d = absurd (true≢false a)
   own_effect l e sum f kind.Correction a u s d = absurd (true≢false a)

@@ -24,14 +24,14 @@ use Rattle.carry.specs.Carry.{carry_refusal_of}
 use Rattle.entries.specs.Order.{first_refusal}
 use Rattle.image_post.specs.Postings.{PostingExit, read_entry, post_refusal, post_into, post_image}
 use Rattle.image_carry.specs.Carries.{CarryExit, read_entries, carry_refusal, carry_into, carry_image}
-use Rattle.image_read.specs.Reads.{statement_image, contribution_image}
+use Rattle.image_read.specs.Reads.{statement_image, contribution_image, year_image}
 use Rattle.image_page.specs.Pages.{page_image}
 use Rattle.history.specs.History.{History, offer, offers}
 use Rattle.history.specs.Laws.{Valid, empty, joins, In}
 use Rattle.history.specs.Images.{records_by, image_in, bytes_in, short_in, room_in, saved_by, AllTyped}
 use Rattle.history.specs.Agreement.{Kept}
 use Rattle.history.specs.Trips.{history_in}
-use Rattle.history.specs.Hosts.{HostQuery, check, statement, contribution, page, HostCall, posting, carry_over, query, queried, host_query_of, wrote, host_of, fresh_image, post_refusal_in, post_in, carry_refusal_in, carry_in, host_query_in, host_in, Lent, AllLent, HostClaim, Demand3Hosts}
+use Rattle.history.specs.Hosts.{HostQuery, check, statement, contribution, page, year, HostCall, posting, carry_over, query, queried, host_query_of, wrote, host_of, fresh_image, post_refusal_in, post_in, carry_refusal_in, carry_in, host_query_in, host_in, Lent, AllLent, HostClaim, Demand3Hosts}
 use Rattle.history.proofs.Tests.{tested, either}
 use Rattle.history.proofs.Accept.{recorded}
 use Rattle.history.proofs.Laws.{offered, laws}
@@ -39,7 +39,7 @@ use Rattle.history.proofs.Served.{host_adds}
 use Rattle.history.proofs.Carry.{replied_number, posted_kept, posted_same, posted_run, posts_same, results_same}
 use Rattle.history.proofs.Runs.{idle_run}
 use Rattle.history.proofs.Calls.{lists_same, along}
-use Rattle.history.proofs.Queries.{statement_same, contribution_same}
+use Rattle.history.proofs.Queries.{statement_same, contribution_same, year_same}
 use Rattle.history.proofs.Pages.{page_same}
 use Rattle.history.proofs.Images.{bytes_same, save_same, saved_same}
 use Rattle.history.proofs.Trips.{length_image, loads, image_loads, image_again, image_typed, decoded_typed, loaded_kept}
@@ -72,11 +72,12 @@ module _ {b : Book} {h : History} (w : Kept b h) (idle : without_run b ≡ b) wh
       rw (save_same next shut output, bytes_same next, saved_same next shut output, results_same Posted w so rs results) refl
 
   query_same : (q : HostQuery) → host_query_of (accepted_load b) q ≡ host_query_in h q
-  unfolding host_query_of host_query_in statement_image contribution_image page_image
+  unfolding host_query_of host_query_in statement_image contribution_image page_image year_image
   query_same check = rw w.agrees.counted refl
   query_same (statement account allowance) = rw (statement_same w account allowance) refl
   query_same (contribution account node serial) = rw (contribution_same w account node serial) refl
   query_same (page account output) = rw (page_same w account output) refl
+  query_same (year y) = rw (year_same w y) refl
 
 -- THE IMAGE THAT IT LEAVES
 

@@ -12,6 +12,7 @@ use Rattle.history.proofs.Names.{contributed, in_period, once}
 use Rattle.history.proofs.Conserve.{conserve, divide, refunds_all, reductions_all}
 use Rattle.history.proofs.Open.{one_open}
 use Rattle.history.proofs.Bound.{bounded, added_small, paid_small}
+use Rattle.history.proofs.Years.{small_year}
 
 lawful : (h : History) → Valid h → Lawful h
 lawful h v =
@@ -37,6 +38,7 @@ within h v =
       deposit = λ a. omega (arith, (bounded v a).deposit);
       added = λ e. omega (arith, fits v, added_small h e);
       paid = λ c. omega (arith, fits v, paid_small v c);
+      years = λ year. let s = small_year v year in omega (arith, fits v, s.bills, s.payments, s.paid_out, s.entries);
     }
 
 -- what holds of a history when an entry is offered

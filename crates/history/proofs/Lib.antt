@@ -8,6 +8,7 @@ pub mod Tables
 pub mod Search
 pub mod Effects
 pub mod Stored
+pub mod Years
 pub mod Agreement
 pub mod Determined
 pub mod Laws
@@ -26,4 +27,5 @@ pub mod PageFigures
 pub mod Witness
 pub mod RunFigures
 pub mod NoDayFigures
+pub mod YearFigures
 pub mod Cited

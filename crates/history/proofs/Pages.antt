@@ -23,7 +23,7 @@ use Rattle.saves.specs.Saves.{raw_of}
 use Rattle.pages.specs.Pages.{shown_amount, entry_line_of, entry_lines_of, page_text_of, page_exit, page_of}
 use Rattle.pages.specs.Rows.{line_bytes, page_rows, AllLines, FiguresFit, EntryFits, AllFit}
 use Rattle.pages.proofs.RowsLaws.{page_form, text_long}
-use Rattle.history.specs.History.{History, accounts, fate, judge, ◌⇒◌, first_broken, held_amount}
+use Rattle.history.specs.History.{History, accounts, on_account, fate, judge, ◌⇒◌, first_broken, held_amount}
 use Rattle.history.specs.Laws.{Valid, empty, joins}
 use Rattle.history.specs.Agreement.{kept_entry, kept_link, kept_walk, Kept}
 use Rattle.history.specs.Queries.{statement_by, statement_in, entry_line_in, entry_lines_in, page_text_in, page_length, PagesFormed, page_by, page_in}
@@ -112,7 +112,7 @@ figures_fit {h} v a = go (first_broken ((not (between a 1 accounts) ⇒ 3) ∷ [
     go zero =
         let s = bounded v a in
         let room = fits v in
-        let held = total_small held_amount h a (λ e r. some_small (same_of (kind_of e.kind) kind.Contribution) (fate h e).held (omega (arith, held_small h e, r.amount))) v in
+        let held = total_small held_amount h (on_account a) (λ e r. some_small (same_of (kind_of e.kind) kind.Contribution) (fate h e).held (omega (arith, held_small h e, r.amount))) v in
         record {
           arrears = omega (arith, s.arrears, room);
           credit = omega (arith, s.credit, room);

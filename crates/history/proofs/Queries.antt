@@ -1,38 +1,40 @@
--- A statement and a contribution query give what the history has.
-use mathlib.Core.Path.{◌≡◌, refl, ap}
-use Prim.Native.Nat.{ℕ, zero, suc, ◌+◌, min, ◌≤◌}
+-- A statement, a contribution query and the totals of a year give what the history has.
+use mathlib.Core.Path.{◌≡◌, refl, sym, ap, ◌∙◌}
+use Prim.Native.Nat.{ℕ, zero, suc, ◌+◌, ◌-◌, min, ◌≤◌}
 use native.Mathlib.Omega.{arith}
 use native.Mathlib.Nat.{min-eq_left}
-use mathlib.Core.Bool.{Bool, true, false, cond, not, ◌||◌}
+use mathlib.Core.Bool.{Bool, true, false, cond, not}
 use mathlib.Core.List.{List, [], ◌∷◌}
-use lib.ListN.{length, take}
+use lib.ListN.{length, get_or, take}
 use lib.Dec.{eqb}
 use Rattle.measures.specs.Cents.{most}
 use Rattle.entries.specs.Kinds.{kind_of, same_of, counts_with_bills}
-use Rattle.entries.specs.Ranges.{amount_most, between}
+use Rattle.entries.specs.Ranges.{between}
 use Rattle.std.specs.Prelude.{Ok, Err}
 use Rattle.entries.specs.Refusals.{decided_of}
 use Rattle.entries.specs.Data.{entry_of, case_of, name_of, carries}
 use Rattle.entries.specs.declared.raw.Raw.{Raw}
-use Rattle.entries.specs.declared.kinds.Kind.{Kind}
 use Rattle.entries.specs.declared.kinds.Kind.TheVariants as kind
 use Rattle.entries.specs.declared.data.Entry.{Entry}
 use Rattle.entries.specs.declared.data.Particulars.{Particulars}
 use Rattle.entries.specs.declared.refusals.Refusal.TheVariants as no
 use Rattle.entries.proofs.Ranges.{inside}
-use Rattle.entries.proofs.KindsLaws.{every_kind}
 use Rattle.book.specs.declared.Found.{Found}
 use Rattle.book.specs.Chain.{sought_in}
 use Rattle.book.specs.Posting.{account_at}
 use Rattle.book.specs.declared.Book.{Book}
+use Rattle.years.specs.Years.{no_year, totals_of}
 use Rattle.queries.specs.Chain.{walk_at, entries_in, chain_at, total_of, standing_of, is_payment}
 use Rattle.queries.specs.Chain as chains
 use Rattle.queries.specs.Statements.{statement_reply_of, given_of, statement_of}
 use Rattle.queries.specs.Contributions.{contribution_reply_of, contribution_figures_of, contribution_query_of, known_of}
-use Rattle.history.specs.History.{History, accounts, Target, find, fate, target_entry, pointer_to, filter, entries_of, Reading, sum, total, standing_amount, billed_amount, held_amount, to_arrears, refunds_paid}
+use Rattle.history.specs.History.{History, accounts, Target, find, fate, target_entry, pointer_to, filter, on_account, entries_of, Reading, sum, total, standing_amount, billed_amount, held_amount, to_arrears, refunds_paid}
+use Rattle.history.specs.Years.{year_in}
 use Rattle.history.specs.Agreement.{kept_entry, Kept, kept_link, kept_walk}
 use Rattle.history.specs.Queries.{statement_by, statement_in, contribution_by, contribution_in}
+use Rattle.history.proofs.Tests.{tested}
 use Rattle.history.proofs.Accept.{FieldsInRange, fits}
+use Rattle.history.proofs.Years.{no_entries, counted, billed_sum}
 use Rattle.history.proofs.Bound.{large, held_small, standing_small, some_small, total_small, taken_small}
 use Rattle.history.proofs.Tables.{kept_read}
 use Rattle.history.proofs.Search.{Finds, neither, both, finds}
@@ -69,13 +71,6 @@ unfolding total_of sum
 reads_total g f all same none = refl
 reads_total g f all same (link h {e} w) = omega (arith, reads_total g f all same w, same h e)
 
--- what counts of each kind: bills at what stands, with late charges, and payments
-counted : (x y : ℕ) (l : Kind) →
-    let stands = cond (same_of l kind.Bill || same_of l kind.Payment) x (cond (same_of l kind.LateCharge) y 0) in
-    (cond (counts_with_bills l) stands 0 ≡ cond (same_of l kind.Bill) x 0 + cond (same_of l kind.LateCharge) y 0) ×
-    (cond (is_payment l) stands 0 ≡ cond (same_of l kind.Payment) x 0)
-counted x y = every_kind _ (omega arith)
-
 -- what is read of an entry: what is held, and the standing amount of the kinds that have one
 module _ (all : History) where
   pub held_read : (h : History) (e : Raw) → chains.held_of (kept_entry all h e) ≡ held_amount (kind_of e.kind) e (fate all e)
@@ -90,9 +85,6 @@ module _ (all : History) where
   unfolding standing_of entry_of
   payment_read h e = let l = kind_of e.kind in rw (kept_read l e (fate all e) _ _).0 (counted (fate all e).standing e.amount l).1
 
-billed_sum : {x y : ℕ} → x ≤ large → y ≤ amount_most → (l : Kind) → cond (same_of l kind.Bill) x 0 + cond (same_of l kind.LateCharge) y 0 ≤ large
-billed_sum p q = every_kind _ (omega arith)
-
 -- STATEMENT
 module _ {b : Book} {h : History} (w : Kept b h) where
   held_fits : (a : ℕ) → min (total_of chains.held_of (entries_in (kept_walk h h a))) most ≡ total held_amount h (entries_of h a)
@@ -101,7 +93,7 @@ module _ {b : Book} {h : History} (w : Kept b h) where
       (min-eq_left (omega (
         arith,
         fits w.valid,
-        total_small held_amount h a (λ e s. some_small (same_of (kind_of e.kind) kind.Contribution) (fate h e).held
+        total_small held_amount h (on_account a) (λ e s. some_small (same_of (kind_of e.kind) kind.Contribution) (fate h e).held
             (omega (arith, held_small h e, s.amount))) w.valid,
       )))
 
@@ -111,7 +103,7 @@ module _ {b : Book} {h : History} (w : Kept b h) where
       min (total_of g (take n (entries_in (kept_walk h h a)))) most ≡ total f h (take n (entries_of h a))
   taken_fits g f same small a n =
       rw (reads_total g f h same (reads_taken n (chain_reads h h a)))
-      (min-eq_left (omega (arith, fits w.valid, taken_small f h n (entries_of h a), total_small f h a small w.valid)))
+      (min-eq_left (omega (arith, fits w.valid, taken_small f h n (entries_of h a), total_small f h (on_account a) small w.valid)))
 
   billed_fits : (a n : ℕ) → min (total_of (standing_of counts_with_bills) (take n (entries_in (kept_walk h h a)))) most ≡ total billed_amount h (take n (entries_of h a))
   billed_fits = taken_fits (standing_of counts_with_bills) billed_amount (bill_read h) (λ e s. billed_sum (standing_small w.valid e s) s.amount (kind_of e.kind))
@@ -134,6 +126,17 @@ module _ {b : Book} {h : History} (w : Kept b h) where
           decided_of (cond (not t) (Err no.UnknownAccount) (Ok tt)) (λ n. statement_reply_of (Err n)) (given_of (account_at b a) (chain_at b a) n) ≡ statement_by (cond (not t) 3 0) h a n
       go true e = let i = inside a 1 accounts e in given_same a n i.0 i.1
       go false e = refl
+
+  -- TOTALS OF A YEAR
+  pub year_same : (year : ℕ) → totals_of b.years year ≡ year_in h year
+  unfolding totals_of
+  year_same year =
+      tested (λ t. cond t (get_or b.years.0 (year - 2000) no_year) no_year ≡ year_in h year) (between year 2000 2099)
+      (λ t.
+      let i = inside year 2000 2099 t in
+      let e : 2000 + (year - 2000) ≡ year = omega arith in
+      w.agrees.years (year - 2000) (omega arith) ∙ ap (year_in h) e)
+      (λ t. sym (no_entries w.valid year t))
 
 -- CONTRIBUTION QUERY
 module _ (all : History) where

@@ -178,6 +178,8 @@ run_apart w run =
             account = a.account;
             rows = a.rows;
             unused = a.unused;
+            years_long = a.years_long;
+            years = a.years;
           };
       valid = w.valid;
     }

@@ -1,5 +1,5 @@
 -- A book and a history that agree, and that they agree after every entry offered.
-use Rattle.std.specs.Prelude.{ℕ, ◌+◌, ◌≤◌, ◌≡◌, Bool, cond, List, [], ◌∷◌, length, get_or, drop, eqb, ltb, Option, None, Some}
+use Rattle.std.specs.Prelude.{ℕ, ◌+◌, ◌≤◌, ◌<◌, ◌≡◌, Bool, cond, List, [], ◌∷◌, length, get_or, drop, eqb, ltb, Option, None, Some}
 use Rattle.measures.specs.Cents.{cents}
 use Rattle.measures.specs.Days.{day}
 use Rattle.measures.specs.declared.Cents.{Cents}
@@ -21,9 +21,12 @@ use Rattle.book.specs.Posting.{account_at, enter_of}
 use Rattle.book.specs.declared.Book.{Book}
 use Rattle.book.specs.declared.Run as declared
 use Rattle.runs.specs.Runs.{without_run}
+use Rattle.years.specs.Years.{years_most, no_year}
+use Rattle.years.specs.declared.Year.{Year}
 use Rattle.queries.specs.Chain.{walk_at}
 use Rattle.history.specs.History.{History, last_day, last_serial, Fate, fate, guarantee_open, Balance, balance, accounts, entries, to_arrears, refunds_paid, offer, replied_of}
 use Rattle.history.specs.Laws.{Valid, amount_bound}
+use Rattle.history.specs.Years.{year_in}
 use Rattle.history.specs.Runs.{Noted, Run, State, late_rate_most}
 use Rattle.history.specs.Images.{newest_of}
 
@@ -63,12 +66,16 @@ kept_entry all h e = entry_of e (newest_of h e.account) (data_in all e)
 abbrev pub kept_link : History → History → Raw → Link
 kept_link all h e = record { place = length h; entry = kept_entry all h e }
 
+-- these are the totals of the hundred years from 2000 on
+abbrev pub YearsKept : List Year → (ℕ → Year) → Type 0
+YearsKept ys totals = (y : ℕ) → y < years_most → get_or ys y no_year ≡ totals (2000 + y)
+
 -- each entry stands at the place of its number
 pub data Placed (all : History) (es : List Entry) : History → Type 0 where
   start : Placed all es []
   more : {e : Raw} {h : History} → get_or es (length h) no_entry ≡ kept_entry all h e → Placed all es h → Placed all es (e ∷ h)
 
--- The book keeps the history's arrears, credit, deposits, open guarantees, last serials and entries, each number as it is.
+-- The book keeps the history's arrears, credit, deposits, open guarantees, last serials, entries and totals of calendar years, each number as it is.
 pub record Agrees (b : Book) (h : History) : Type 0 where
   pub accounts_long : length b.accounts ≡ accounts
   pub entries_long : length b.entries ≡ entries
@@ -79,6 +86,8 @@ pub record Agrees (b : Book) (h : History) : Type 0 where
   pub rows : Placed h b.entries h
   -- places past the count are unused
   pub unused : (i : ℕ) → length h ≤ i → get_or b.entries i no_entry ≡ no_entry
+  pub years_long : length b.years.0 ≡ years_most
+  pub years : YearsKept b.years.0 (year_in h)
 
 -- an account's entries, newest first, as the book keeps them
 unfoldable pub kept_walk : History → History → ℕ → List Link

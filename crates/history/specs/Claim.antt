@@ -12,15 +12,17 @@ use Rattle.queries.specs.Chain.{chain_at, total_of}
 use Rattle.queries.specs.Chain as chains
 use Rattle.queries.specs.Statements.{statement_of}
 use Rattle.queries.specs.Contributions.{contribution_query_of}
+use Rattle.years.specs.Years.{totals_of}
 use Rattle.pages.specs.Pages.{page_of}
 use Rattle.saves.specs.Saves.{save_of, saved_in}
 use Rattle.history.specs.History.{accounts, after, answers_along, balance, entries_of, total, held_of, held_amount}
 use Rattle.history.specs.Laws.{In, Lawful, Bounded}
 use Rattle.history.specs.Runs.{State}
+use Rattle.history.specs.Years.{year_in}
 use Rattle.history.specs.Agreement.{Kept, RunKept}
 use Rattle.carry.specs.Carry.{carry_refusal_of, carry_book_of, carry_results_of}
 use Rattle.runs.specs.Runs.{open_run_of, step_of, close_run_of}
-use Rattle.history.specs.Queries.{Query, statement, contribution, page, save, QueryAnswer, stated, given, paged, saved}
+use Rattle.history.specs.Queries.{Query, statement, contribution, page, year, save, QueryAnswer, stated, given, paged, totalled, saved}
 use Rattle.history.specs.Calls.{Call, posting, carry_over, opening, step, close, query, CallAnswer, posted, carried, ran, queried, call_in, state_from, state_after, history_after}
 
 -- the queries on a book
@@ -28,6 +30,7 @@ unfoldable pub query_of : Book → Query → QueryAnswer
 query_of b (statement account allowance) = stated (statement_of b account allowance)
 query_of b (contribution account node serial) = given (contribution_query_of b account node serial)
 query_of b (page account buffer) = paged (page_of b account buffer)
+query_of b (year y) = totalled (totals_of b.years y)
 query_of b (save buffer) = saved (save_of b buffer).refusal (save_of b buffer).bytes (saved_in b buffer)
 
 -- the calls on a book: the next book, and the answer
@@ -57,7 +60,7 @@ guarantee_held_of e = (particulars_of e.«data»).guarantee_held.0
 pub record Claim (b : Book) (s : State) (cs : List Call) : Type 0 where
   -- Every answer in the list is the history's at that point: an offered entry's refusal number is 0 exactly when it joins; which
   -- calls are refused, which statements are complete and an accepted posting's four amounts; and what every accepted statement,
-  -- contribution query, page and save gives, a page's and a save's buffer among it.
+  -- contribution query, page, query of a year and save gives, a page's and a save's buffer among it.
   pub answered : answers_along call_of b cs ≡ answers_along call_in s cs
   -- the book after the list has the history's arrears
   pub arrears : (a : ℕ) → 1 ≤ a → a ≤ accounts → (account_at (book_after b cs) a).arrears.0 ≡ (balance (history_after s cs) a).arrears
@@ -70,6 +73,8 @@ pub record Claim (b : Book) (s : State) (cs : List Call) : Type 0 where
   -- and of its guarantees
   pub guarantee_held : (a : ℕ) → 1 ≤ a → a ≤ accounts →
       total_of guarantee_held_of (chain_at (book_after b cs) a) ≡ total (held_of kind.Guarantee) (history_after s cs) (entries_of (history_after s cs) a)
+  -- what it keeps of each calendar year is what the history's entries come to
+  pub years : (year : ℕ) → totals_of (book_after b cs).years year ≡ year_in (history_after s cs) year
   -- it keeps the history's entries, chains and last serials too
   pub kept : Kept (book_after b cs) (history_after s cs)
   -- and its run: the same node, day and rate, and the same accounts left with the same noted arrears

@@ -12,13 +12,15 @@ use Rattle.entries.specs.Order.{first_refusal}
 use Rattle.image_read.specs.Checks.{check_given}
 use Rattle.image_post.specs.Postings.{PostingExit, posting_given, refused_posting, read_entry, entry_refusal, post_image}
 use Rattle.image_carry.specs.Carries.{CarryExit, accepted_carry, refused_carry, read_entries, entries_refusal, carry_image}
-use Rattle.image_read.specs.Reads.{statement_given, statement_image, contribution_given, contribution_image}
+use Rattle.image_read.specs.Reads.{statement_given, statement_image, contribution_given, contribution_image, year_given, year_image}
 use Rattle.image_page.specs.Pages.{PageImageExit, page_image_exit, page_image}
 use Rattle.image_read.specs.declared.checks.CheckGiven.{CheckGiven}
 use Rattle.image_read.specs.declared.reads.StatementGiven.{StatementGiven}
 use Rattle.image_read.specs.declared.reads.ContributionGiven.{ContributionGiven}
+use Rattle.image_read.specs.declared.reads.YearGiven.{YearGiven}
 use Rattle.history.specs.History.{History, after, answers_along, judge_by, offer, offers, replied_of, results_refusal, carry_verdicts}
 use Rattle.history.specs.Laws.{In, Lawful, Bounded}
+use Rattle.history.specs.Years.{year_in}
 use Rattle.history.specs.Queries.{statement_in, contribution_in, page_in}
 use Rattle.history.specs.Images.{image_in, bytes_in, room_in, saved_by}
 use Rattle.history.specs.Agreement.{Kept}
@@ -30,6 +32,7 @@ pub data HostQuery : Type 0 where
   statement : ℕ → ℕ → HostQuery  -- account, allowance
   contribution : ℕ → ℕ → ℕ → HostQuery  -- account, node, serial
   page : ℕ → List ℕ → HostQuery  -- account, and the output as it is lent
+  year : ℕ → HostQuery  -- the year's number
 
 -- what they give, with a page's output at the end
 pub data HostQueryAnswer : Type 0 where
@@ -37,6 +40,7 @@ pub data HostQueryAnswer : Type 0 where
   stated : StatementGiven → HostQueryAnswer
   given : ContributionGiven → HostQueryAnswer
   paged : PageImageExit → HostQueryAnswer
+  totalled : YearGiven → HostQueryAnswer
 
 -- what the exported calls are given beside the image
 pub data HostCall : Type 0 where
@@ -56,6 +60,7 @@ host_query_of l check = checked (check_given l)
 host_query_of l (statement account allowance) = stated (statement_image l account allowance)
 host_query_of l (contribution account node serial) = given (contribution_image l account node serial)
 host_query_of l (page account output) = paged (page_image l account output)
+host_query_of l (year y) = totalled (year_image l y)
 
 -- the image to go on with: so many bytes of the output of a posting or a carry-over that is not refused, else the same
 abbrev pub wrote : List ℕ → ℕ → ℕ → List ℕ → List ℕ
@@ -103,6 +108,7 @@ host_query_in h check = checked (record { refusal = 0; «record» = 0; entries =
 host_query_in h (statement account allowance) = stated (statement_given (statement_in h account allowance) 0)
 host_query_in h (contribution account node serial) = given (contribution_given (contribution_in h account node serial) 0)
 host_query_in h (page account output) = paged (page_image_exit (page_in h account output))
+host_query_in h (year y) = totalled (year_given (year_in h y) 0 0)
 
 -- the next history, and what the call gives: a posting that is not refused offers its entry, a carry-over the entries that it is given in
 -- turn; a query adds nothing

@@ -6,6 +6,7 @@ use Rattle.entries.specs.declared.raw.Raw.{Raw}
 use Rattle.entries.specs.declared.kinds.Kind.{Kind}
 use Rattle.entries.specs.declared.kinds.Kind.TheVariants as kind
 use Rattle.history.specs.History.{History, Amounts, entries, dated, refund_end, points, fate, total, paid_by, open_guarantees, Balance, balance, amounts, judge, offers, on_account, entries_of, Reading, amount_of, standing_amount, billed_amount, held_of, held_amount, added_up, settled_by, paid_out_by, customers}
+use Rattle.history.specs.Years.{year_in}
 
 -- the histories that offers give, and a run's steps: no refusal stopped any entry, read against those before it
 pub data Valid : History → Type 0 where
@@ -133,8 +134,8 @@ abbrev pub amount_bound : ℕ
 amount_bound = 1024000000000000
 
 -- The book's amounts, statements and queries equal plain sums (Claim, `kept` and `answered`), so no sum in a book so reached
--- saturates. Its limits are 1,024 entries, 2^64 - 1 cents and 65,535 customers added to an entry; these are the bounds, that of the
--- payments that a reduction c counts among them.
+-- saturates. Its limits are 1,024 entries, 2^64 - 1 cents and 65,535, of customers added to an entry and of entries of a year; these are the bounds,
+-- those of the payments that a reduction c counts and of a year's totals among them.
 pub record Bounded (h : History) : Type 0 where
   pub room : length h ≤ entries
   pub arrears : (a : ℕ) → (balance h a).arrears ≤ amount_bound
@@ -142,6 +143,7 @@ pub record Bounded (h : History) : Type 0 where
   pub deposit : (a : ℕ) → (balance h a).deposit ≤ amount_bound
   pub added : (e : Raw) → (fate h e).added ≤ entries
   pub paid : (c : Raw) → paid_by h c ≤ amount_bound
+  pub years : (year : ℕ) → let x = year_in h year in (x.bills.0 ≤ amount_bound) × (x.payments.0 ≤ amount_bound) × (x.paid_out.0 ≤ amount_bound) × (x.entries ≤ entries)
 
 -- proofs/Laws.antt shows them
 pub record Laws : Type 0 where

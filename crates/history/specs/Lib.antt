@@ -1,4 +1,5 @@
 pub mod History
+pub mod Years
 pub mod Laws
 pub mod Runs
 pub mod Guarantees
@@ -13,3 +14,4 @@ pub mod PageFigures
 pub mod Witness
 pub mod RunFigures
 pub mod NoDayFigures
+pub mod YearFigures

@@ -7,10 +7,12 @@ use Rattle.entries.specs.declared.kinds.Kind.TheVariants as kind
 use Rattle.queries.specs.Replies.{statement_reply, contribution_reply}
 use Rattle.queries.specs.declared.statements.StatementReply.{StatementReply}
 use Rattle.queries.specs.declared.contributions.ContributionReply.{ContributionReply}
+use Rattle.years.specs.declared.Year.{Year}
 use Rattle.pages.specs.Rows.{page_rows, text_of, AllLines, EntryLine}
 use Rattle.pages.specs.Pages.{PageExit, page_exit}
 use Rattle.history.specs.History.{History, accounts, pointer_to, find, fate, target_entry, balance, ◌⇒◌, first_broken, entries_of, total, standing_amount, billed_amount, held_amount, to_arrears, refunds_paid}
 use Rattle.history.specs.Laws.{Valid}
+use Rattle.history.specs.Years.{year_in}
 use Rattle.history.specs.Runs.{State, is_open}
 use Rattle.history.specs.Images.{bytes_in, short_in, room_in, saved_by}
 
@@ -80,6 +82,7 @@ pub data Query : Type 0 where
   statement : ℕ → ℕ → Query  -- account, allowance
   contribution : ℕ → ℕ → ℕ → Query  -- account, node, serial
   page : ℕ → List ℕ → Query  -- account, and the buffer as it is lent
+  year : ℕ → Query  -- the year's number
   save : List ℕ → Query  -- the buffer as it is lent
 
 -- what they answer
@@ -87,6 +90,7 @@ pub data QueryAnswer : Type 0 where
   stated : StatementReply → QueryAnswer
   given : ContributionReply → QueryAnswer
   paged : PageExit → QueryAnswer  -- the refusal number, the length, and the buffer after it
+  totalled : Year → QueryAnswer  -- no year is refused
   saved : ℕ → ℕ → List ℕ → QueryAnswer  -- the refusal number, the length, and the buffer after it
 
 -- a save is refused by 29 during a run, and leaves the buffer; then by 21
@@ -98,4 +102,5 @@ unfoldable pub query_in : State → Query → QueryAnswer
 query_in s (statement account allowance) = stated (statement_in s.entries account allowance)
 query_in s (contribution account node serial) = given (contribution_in s.entries account node serial)
 query_in s (page account buffer) = paged (page_in s.entries account buffer)
+query_in s (year y) = totalled (year_in s.entries y)
 query_in s (save buffer) = save_in (is_open s.run) s.entries buffer

@@ -5,6 +5,7 @@ use codec::{RECORD, Record, header};
 use contribution_book::{
     contribution_book_carry_over, contribution_book_check, contribution_book_contribution,
     contribution_book_page, contribution_book_post, contribution_book_statement,
+    contribution_book_year,
 };
 use entries::{Kind, Raw};
 use std::io;
@@ -214,6 +215,14 @@ impl<'a, P: Print> Host<'a, P> {
         )
     }
 
+    fn year(&self, year: u16) -> io::Result<()> {
+        let given = contribution_book_year(self.image(), year);
+        println!(self.rt;
+            "year {} {} {} {} {} {}",
+            given.refusal, given.record, given.entries, given.bills, given.payments, given.paid_out,
+        )
+    }
+
     // Asks for a page with so much room. Last are the output's first byte and the one past a page, 255 before; then the page's first 19
     // lines, where it is accepted.
     fn page(&self, account: u16, room: usize) -> io::Result<()> {
@@ -263,11 +272,12 @@ impl<'a, P: Print> Host<'a, P> {
         self.carry_over(other.records(72), 5, ROOM)?;
         self.statement(5, 9)?;
         self.contribution(5, 1, 1)?;
+        self.year(2000)?;
         self.page(5, PAGE_ROOM)
     }
 }
 
-// Node 1: a contribution, bills, an added customer, a deposit and its return, a payment, the expiry.
+// Node 1: a contribution, bills, an added customer, a deposit and its return, a payment, the expiry in 2005.
 fn first_node<P: Print>(rt: &P) -> io::Result<Host<'_, P>> {
     let mut node = Host::fresh(rt);
     node.check()?;
@@ -295,6 +305,11 @@ fn first_node<P: Print>(rt: &P) -> io::Result<Host<'_, P>> {
     node.post(naming(entry(Kind::Expiry, 1, 1926, 8)))?;
     node.contribution(5, 1, 1)?;
     node.check()?;
+    node.year(2000)?;
+    node.year(2005)?;
+    // Years that no book has.
+    node.year(1999)?;
+    node.year(2100)?;
     Ok(node)
 }
 
@@ -318,6 +333,7 @@ fn main(rt: HostRuntime) -> io::Result<()> {
     host.carry_over(other.records(72), 5, ROOM)?;
     host.statement(5, 99)?;
     host.contribution(5, 2, 3)?;
+    host.year(2000)?;
     host.page(5, PAGE_ROOM)?;
     host.show(0..24)?;
     host.show(264..288)

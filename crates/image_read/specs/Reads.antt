@@ -1,7 +1,8 @@
--- The statement and the contribution query of an image.
+-- The statement, the contribution query and the totals of a year of an image.
 use Rattle.std.specs.Prelude.{ℕ, false, cond, eqb, Result, Ok, Err}
 use Rattle.loads.specs.Loaded.{LoadedReply, record_number}
 use Rattle.loads.specs.declared.Fault.{Fault}
+use Rattle.entries.specs.Refusals.{refusal_number}
 use Rattle.queries.specs.Statements.{statement_reply_of, statement_of}
 use Rattle.queries.specs.Contributions.{contribution_reply_of, contribution_query_of}
 use Rattle.queries.specs.Replies.{statement_reply, contribution_reply}
@@ -9,8 +10,11 @@ use Rattle.queries.specs.declared.statements.StatementFigures.{StatementFigures}
 use Rattle.queries.specs.declared.statements.StatementReply.{StatementReply}
 use Rattle.queries.specs.declared.contributions.ContributionFigures.{ContributionFigures}
 use Rattle.queries.specs.declared.contributions.ContributionReply.{ContributionReply}
+use Rattle.years.specs.Years.{no_year, totals_of}
+use Rattle.years.specs.declared.Year.{Year}
 use Rattle.image_read.specs.declared.reads.StatementGiven.{StatementGiven}
 use Rattle.image_read.specs.declared.reads.ContributionGiven.{ContributionGiven}
+use Rattle.image_read.specs.declared.reads.YearGiven.{YearGiven}
 
 -- an answer, and the image's record at fault
 abbrev pub statement_given : StatementReply → ℕ → StatementGiven
@@ -62,3 +66,23 @@ unfoldable pub contribution_image : LoadedReply → ℕ → ℕ → ℕ → Cont
 contribution_image l account node serial =
     cond (eqb l.refusal 0) (contribution_given (contribution_query_of l.book account node serial) 0)
     (contribution_given (contribution_reply l.refusal 0 0 0 0 0 0 false) l.faulty)
+
+-- totals, a refusal's number and the image's record at fault
+abbrev pub year_given : Year → ℕ → ℕ → YearGiven
+year_given y refusal faulty =
+    record {
+      refusal = refusal;
+      «record» = faulty;
+      entries = y.entries;
+      bills = y.bills.0;
+      payments = y.payments.0;
+      paid_out = y.paid_out.0;
+    }
+
+unfoldable pub year_given_of : Result Year Fault → YearGiven
+year_given_of (Err f) = year_given no_year (refusal_number f.refusal) (record_number f)
+year_given_of (Ok y) = year_given y 0 0
+
+-- a refused image: the number, its record, and otherwise zeros; else the totals of the year
+unfoldable pub year_image : LoadedReply → ℕ → YearGiven
+year_image l year = cond (eqb l.refusal 0) (year_given (totals_of l.book.years year) 0 0) (year_given no_year l.refusal l.faulty)

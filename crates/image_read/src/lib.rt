@@ -1,8 +1,10 @@
-// What is read off an image: its check, a statement and a contribution query.
+// What is read off an image: its check, a statement, a contribution query and the totals of a year.
 #![tactic(auto)]
 
 mod checks;
 mod reads;
 
 pub use checks::{CheckGiven, check_image};
-pub use reads::{ContributionGiven, StatementGiven, contribution_image, statement_image};
+pub use reads::{
+    ContributionGiven, StatementGiven, YearGiven, contribution_image, statement_image, year_image,
+};

@@ -1,11 +1,12 @@
-// The statement and the contribution query of an image.
+// The statement, the contribution query and the totals of a year of an image.
 ghost use Rattle.std.specs.Prelude.{◌≡◌};
 ghost use Rattle.loads.specs.Loads.{load_of};
-ghost use Rattle.image_read.specs.Reads.{statement_given_of, statement_image, contribution_given_of, contribution_image};
+ghost use Rattle.image_read.specs.Reads.{statement_given_of, statement_image, contribution_given_of, contribution_image, year_given_of, year_image};
 
 use book::Next;
 use loads::{Fault, load};
-use queries::{ContributionFigures, StatementFigures, contribution_query, statement};
+use queries::{ContributionFigures, StatementFigures, contribution_query, statement, year_totals};
+use years::Year;
 
 #[repr(C)]
 #[derive(Clone, Copy, Default)]
@@ -37,6 +38,19 @@ pub struct ContributionGiven {
     pub paid_out: u64,
     pub held: u64,
     pub retained: u64,
+}
+
+#[repr(C)]
+#[derive(Clone, Copy, Default)]
+pub struct YearGiven {
+    pub refusal: u8,
+    // The image's record at fault, 0 where none is.
+    pub record: u16,
+    // How many entries the year has.
+    pub entries: u16,
+    pub bills: u64,
+    pub payments: u64,
+    pub paid_out: u64,
 }
 
 impl From<Result<StatementFigures, Fault>> for StatementGiven {
@@ -129,4 +143,44 @@ pub fn contribution_image(image: &[u8], account: u16, node: u8, serial: u32) -> 
     ensures { result ≡ contribution_image (load_of image.now) account node serial }
 {
     contribution_figures(image, account, node, serial).into()
+}
+
+impl From<Result<Year, Fault>> for YearGiven {
+    ghost from_gives = { λ answer given. given ≡ year_given_of answer };
+
+    #[tactic(auto, unfolding(crate::specs::Reads::year_given_of))]
+    fn from(answer: Result<Year, Fault>) -> YearGiven {
+        match answer {
+            Err(fault) => YearGiven {
+                refusal: fault.refusal.into(),
+                record: fault.record_number(),
+                ..YearGiven::default()
+            },
+            Ok(year) => YearGiven {
+                refusal: 0,
+                record: 0,
+                entries: year.entries,
+                bills: year.bills.0,
+                payments: year.payments.0,
+                paid_out: year.paid_out.0,
+            },
+        }
+    }
+}
+
+// What the entries of the year come to.
+#[tactic(auto, using(entries::proofs::RefusalsLaws::is_refusal), unfolding(loads::specs::Loaded::loaded_reply, crate::specs::Reads::year_given_of, crate::specs::Reads::year_image))]
+fn year_figures(image: &[u8], year: u16) -> Result<Year, Fault>
+    ensures { year_given_of result ≡ year_image (load_of image.now) year }
+{
+    let Next { book, answer } = load(image);
+    answer?;
+    Ok(year_totals(&book, year))
+}
+
+// The totals of a calendar year of an image.
+pub fn year_image(image: &[u8], year: u16) -> YearGiven
+    ensures { result ≡ year_image (load_of image.now) year }
+{
+    year_figures(image, year).into()
 }

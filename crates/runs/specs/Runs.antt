@@ -23,7 +23,7 @@ use Rattle.book.specs.declared.Serials.{Serials}
 
 -- a book with another run, or with none
 abbrev pub with_run : Book → Option Run → Book
-with_run b run = record { accounts = b.accounts; entries = b.entries; count = b.count; last = b.last; run = run }
+with_run b run = record { accounts = b.accounts; entries = b.entries; count = b.count; last = b.last; run = run; years = b.years }
 
 unfoldable pub without_run : Book → Book
 without_run b = with_run b None

@@ -101,6 +101,8 @@ pub enum Call {
     Statement { account: u16, allowance: u64 },
     // q
     Contribution { account: u16, node: u8, serial: u32 },
+    // y
+    Year(u16),
     // g: into so many bytes of the buffer.
     Page { account: u16, room: Room },
     // w: into so many bytes of the buffer.
@@ -179,6 +181,7 @@ impl Call {
                 node: numbers.next()?,
                 serial: numbers.next()?,
             }),
+            b'y' => Some(Call::Year(numbers.next()?)),
             b'g' => Some(Call::Page {
                 account: numbers.next()?,
                 room: numbers.next()?,

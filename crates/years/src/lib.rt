@@ -1,11 +1,12 @@
-// The totals of a calendar year.
+// The totals of the calendar years.
 #![tactic(auto)]
 
 ghost use Rattle.std.specs.Prelude.{◌≡◌};
-ghost use Rattle.years.specs.Years.{no_year, in_bills, in_payments, posted_in, restated_in};
+ghost use Rattle.years.specs.Years.{in_bills, in_payments, posted_in, restated_in, no_years, posted_to, restated_to, totals_of};
 
+use calendar::year_of;
 use entries::{Data, Kind, one_more};
-use measures::Cents;
+use measures::{Cents, Day};
 
 // What the entries of a year come to.
 #[derive(Clone, Copy, Default)]
@@ -17,6 +18,10 @@ pub struct Year {
     // How many entries there are.
     pub entries: u16,
 }
+
+// The totals of each calendar year from 2000 to 2099.
+#[derive(Clone, Copy)]
+pub struct Years([Year; Years::COUNT]);
 
 // What an entry counts among bills.
 #[tactic(auto, unfolding(crate::specs::Years::in_bills))]
@@ -37,15 +42,9 @@ fn in_payments(data: Data) -> Cents
 }
 
 impl Year {
-    pub fn none() -> Year
-        ensures { result ≡ no_year }
-    {
-        Year::default()
-    }
-
     // After an entry of the year, which paid so much out.
     #[tactic(auto, unfolding(crate::specs::Years::posted_in))]
-    pub fn posted(self, data: Data, paid_out: Cents) -> Year
+    fn posted(self, data: Data, paid_out: Cents) -> Year
         ensures { result ≡ posted_in self «data» paid_out }
     {
         Year {
@@ -58,7 +57,7 @@ impl Year {
 
     // After a change of an entry of the year: plus what it counts now, minus what it counted before.
     #[tactic(auto, unfolding(crate::specs::Years::restated_in))]
-    pub fn restated(self, before: Data, after: Data) -> Year
+    fn restated(self, before: Data, after: Data) -> Year
         ensures { result ≡ restated_in self before after }
     {
         Year {
@@ -69,5 +68,48 @@ impl Year {
                 .minus(in_payments(before)),
             ..self
         }
+    }
+}
+
+impl Years {
+    const FIRST: u16 = 2000;
+
+    const COUNT: usize = 100;
+
+    // Of no entries.
+    pub fn fresh() -> Years
+        ensures { result ≡ no_years }
+    {
+        let year = Year::default();
+        Years([year; Years::COUNT])
+    }
+
+    // An entry of a day joins, which paid so much out.
+    #[tactic(auto, using(crate::proofs::YearsLaws::year_inside), unfolding(crate::specs::Years::posted_to))]
+    pub fn post(&mut self, day: Day, data: Data, paid_out: Cents)
+        ensures { self.new ≡ posted_to self.old day.0 «data» paid_out }
+    {
+        let y = year_of(day);
+        self.0[y] = self.0[y].posted(data, paid_out);
+    }
+
+    // An entry of a day is changed: it counts in that day's year, whatever changes it.
+    #[tactic(auto, using(crate::proofs::YearsLaws::year_inside), unfolding(crate::specs::Years::restated_to))]
+    pub fn restate(&mut self, day: Day, before: Data, after: Data)
+        ensures { self.new ≡ restated_to self.old day.0 before after }
+    {
+        let y = year_of(day);
+        self.0[y] = self.0[y].restated(before, after);
+    }
+
+    // A year by its number; other years read zero.
+    #[tactic(auto, unfolding(crate::specs::Years::totals_of, entries::specs::Ranges::between))]
+    pub fn totals(&self, year: u16) -> Year
+        ensures { result ≡ totals_of self.now year }
+    {
+        let Some(y) = year.checked_sub(Years::FIRST) else {
+            return Year::default();
+        };
+        self.0.get(usize::from(y)).copied().unwrap_or_default()
     }
 }

@@ -1,6 +1,6 @@
 //! Dates from 2000-01-01, day 0, to 2099-12-31, and periods of whole years.
 
-const FIRST_YEAR: u16 = 2000;
+pub(super) const FIRST_YEAR: u16 = 2000;
 const LAST_YEAR: u16 = 2099;
 /// Days of four years in a row, one of which is a leap year.
 const FOUR_YEARS: u16 = 4 * 365 + 1;
@@ -13,14 +13,25 @@ pub struct Date {
     pub day: u16,
 }
 
-/// The date of a day.
-pub fn date_of(day: u16) -> Date {
+/// The year that a day is in.
+pub fn year_of(day: u16) -> u16 {
+    year_and_rest(day).0
+}
+
+/// The year that a day is in, and the days of that year before it.
+fn year_and_rest(day: u16) -> (u16, u16) {
     let mut year = FIRST_YEAR + 4 * (day / FOUR_YEARS);
     let mut rest = day % FOUR_YEARS;
     while rest >= days_of_year(year) {
         rest -= days_of_year(year);
         year += 1;
     }
+    (year, rest)
+}
+
+/// The date of a day.
+pub fn date_of(day: u16) -> Date {
+    let (year, mut rest) = year_and_rest(day);
     let mut month = 1;
     while rest >= days_of_month(year, month) {
         rest -= days_of_month(year, month);

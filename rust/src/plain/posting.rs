@@ -42,10 +42,10 @@ impl Book {
             Err(refusal) => PostingReply::refused(refusal),
             Ok(accepted) => {
                 let number = self.append(raw);
-                PostingReply {
-                    number,
-                    ..self.apply(raw, accepted)
-                }
+                let reply = self.apply(raw, accepted);
+                let entry = *self.appended();
+                self.year_mut(raw.day).post(&entry, reply.paid_out);
+                PostingReply { number, ..reply }
             }
         }
     }
@@ -107,7 +107,7 @@ impl Book {
     fn deposit(&mut self, raw: &Raw) -> PostingReply {
         let account = self.account_mut(raw.account);
         account.deposit = u64::from(raw.amount);
-        account.rate = raw.a;
+        account.rate = raw.a.into();
         account.deposited = raw.day;
         PostingReply::default()
     }
@@ -117,7 +117,7 @@ impl Book {
     fn deposit_return(&mut self, raw: &Raw) -> PostingReply {
         let account = self.account_mut(raw.account);
         let days = raw.day - account.deposited;
-        let interest = interest(account.deposit, account.rate.into(), days.into());
+        let interest = interest(account.deposit, account.rate, days.into());
         let (settled, paid_out) = account.credit(account.deposit + interest);
         account.deposit = 0;
         account.rate = 0;
@@ -134,12 +134,16 @@ impl Book {
     /// grows, or a payment that shrinks, charges the difference; the others
     /// credit it.
     fn correction(&mut self, raw: &Raw, place: usize) -> PostingReply {
-        let named = &mut self.entries[place];
-        let old = named.standing;
-        let new = u64::from(raw.amount);
-        named.standing = new;
-        named.corrected = true;
-        let charges = if named.raw.kind == BILL {
+        let before = self.entries[place];
+        let after = Entry {
+            standing: raw.amount.into(),
+            corrected: true,
+            ..before
+        };
+        self.entries[place] = after;
+        self.year_mut(before.raw.day).restate(&before, &after);
+        let (old, new) = (before.standing, after.standing);
+        let charges = if before.raw.kind == BILL {
             new > old
         } else {
             new < old

@@ -6,7 +6,7 @@ use crate::cases::{Call, Case};
 use contribution_book::plain::{parse_record, Raw, ENTRIES, RECORD};
 use contribution_book::proved::{
     self, CarryGiven, CheckGiven, ContributionGiven, PageGiven, PostingGiven, StatementGiven,
-    LONGEST_IMAGE,
+    YearGiven, LONGEST_IMAGE,
 };
 use contribution_book::{by_value, plain};
 
@@ -36,6 +36,7 @@ pub enum Answer {
     Carried(CarryGiven),
     Statement(StatementGiven),
     Contribution(ContributionGiven),
+    Year(YearGiven),
     Page(PageGiven),
 }
 
@@ -47,6 +48,7 @@ impl Answer {
             Answer::Carried(given) => given.refusal,
             Answer::Statement(given) => given.refusal,
             Answer::Contribution(given) => given.refusal,
+            Answer::Year(given) => given.refusal,
             Answer::Page(given) => given.refusal,
         }
     }
@@ -75,6 +77,7 @@ fn proved(case: &Case, buffers: &mut Buffers) -> Answer {
             node,
             serial,
         } => Answer::Contribution(proved::contribution(image, account, node, serial)),
+        &Call::Year { year } => Answer::Year(proved::year(image, year)),
         &Call::Page { account } => Answer::Page(proved::page(image, account, output)),
     }
 }
@@ -102,6 +105,7 @@ fn plain(case: &Case, buffers: &mut Buffers) -> Answer {
             node,
             serial,
         } => Answer::Contribution(book.contribution_query(account, node, serial).into()),
+        &Call::Year { year } => Answer::Year(book.year_totals(year).into()),
         &Call::Page { account } => {
             let (refusal, bytes) = book.page(account, &mut buffers.output);
             page(refusal, bytes)
@@ -136,6 +140,10 @@ fn by_value(case: &Case, buffers: &mut Buffers) -> Answer {
         } => {
             let (_, reply) = book.contribution_query(account, node, serial);
             Answer::Contribution(reply.into())
+        }
+        &Call::Year { year } => {
+            let (_, totals) = book.year_totals(year);
+            Answer::Year(totals.into())
         }
         &Call::Page { account } => {
             let (_, refusal, bytes) = book.page(account, &mut buffers.output);

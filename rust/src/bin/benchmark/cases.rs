@@ -17,6 +17,7 @@ pub enum Call {
     CarryOver { entries: Vec<u8> },
     Statement { account: u16, allowance: u64 },
     Contribution { account: u16, node: u8, serial: u32 },
+    Year { year: u16 },
     Page { account: u16 },
 }
 
@@ -162,6 +163,11 @@ fn single_calls() -> Vec<Case> {
         ),
         Case::new("statement of a chain of 1,024", &payments, statement),
         Case::new("contribution at the end of a chain of 1,024", &chain, query),
+        Case::new(
+            "year of a full image",
+            &mixed(ENTRIES),
+            Call::Year { year: 2000 },
+        ),
         Case::new("page of a chain of 1,024", &payments, page),
     ]
 }

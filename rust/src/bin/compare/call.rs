@@ -87,6 +87,9 @@ pub enum Request {
         node: u8,
         serial: u32,
     },
+    Year {
+        year: u16,
+    },
     Page {
         account: u16,
         output: Buffer,
@@ -94,12 +97,13 @@ pub enum Request {
 }
 
 /// The kinds of call, in the order of `Request::kind`.
-pub const KINDS: [&str; 6] = [
+pub const KINDS: [&str; 7] = [
     "check",
     "post",
     "carry over",
     "statement",
     "contribution",
+    "year",
     "page",
 ];
 
@@ -110,6 +114,7 @@ pub enum Answer {
     Carried(CarryGiven),
     Statement(StatementGiven),
     Contribution(ContributionGiven),
+    Year(YearGiven),
     Page(PageGiven),
 }
 
@@ -122,7 +127,8 @@ impl Request {
             Request::CarryOver { .. } => 2,
             Request::Statement { .. } => 3,
             Request::Contribution { .. } => 4,
-            Request::Page { .. } => 5,
+            Request::Year { .. } => 5,
+            Request::Page { .. } => 6,
         }
     }
 
@@ -153,6 +159,11 @@ impl Request {
                 refusal,
                 record,
                 ..ContributionGiven::default()
+            }),
+            Request::Year { .. } => Answer::Year(YearGiven {
+                refusal,
+                record,
+                ..YearGiven::default()
             }),
             Request::Page { .. } => Answer::Page(PageGiven {
                 refusal,
@@ -211,6 +222,7 @@ impl Call {
                 node,
                 serial,
             } => Answer::Contribution(contribution(image, account, node, serial)),
+            &mut Request::Year { year: asked } => Answer::Year(year(image, asked)),
             Request::Page { account, output } => {
                 Answer::Page(page(image, *account, output.bytes_mut()))
             }

@@ -1,11 +1,14 @@
 //! What the plain book makes of a call: it loads the image, answers the
-//! request and saves.
+//! request and saves. The totals of a year are summed over the image's entries.
 
 use crate::call::{Answer, Call, Request};
+use crate::images::entries_of;
+use crate::years::taken;
 use contribution_book::plain::*;
 use contribution_book::proved::{
-    CarryGiven, CheckGiven, ContributionGiven, PageGiven, PostingGiven, StatementGiven,
+    CarryGiven, CheckGiven, ContributionGiven, PageGiven, PostingGiven, StatementGiven, YearGiven,
 };
+use contribution_book::summed;
 
 pub struct Expected {
     pub answer: Answer,
@@ -22,8 +25,9 @@ type Given<T> = Result<T, u8>;
 
 pub fn expected(call: &Call) -> Expected {
     let mut after = call.clone();
-    let (mut book, image_refusal, record) = Book::load(call.image.bytes());
-    let given = accept(image_refusal).and_then(|()| answer(&mut book, &mut after.request));
+    let image = call.image.bytes();
+    let (mut book, image_refusal, record) = Book::load(image);
+    let given = accept(image_refusal).and_then(|()| answer(&mut book, image, &mut after.request));
     Expected {
         answer: given.unwrap_or_else(|refusal| call.request.refused(refusal, record)),
         after,
@@ -40,7 +44,7 @@ fn accept(refusal: u8) -> Given<()> {
     }
 }
 
-fn answer(book: &mut Book, request: &mut Request) -> Given<Answer> {
+fn answer(book: &mut Book, image: &[u8], request: &mut Request) -> Given<Answer> {
     Ok(match request {
         Request::Check => Answer::Checked(CheckGiven {
             entries: book.count() as u16,
@@ -67,6 +71,7 @@ fn answer(book: &mut Book, request: &mut Request) -> Given<Answer> {
             node,
             serial,
         } => Answer::Contribution(contribution(book, account, node, serial)?),
+        &mut Request::Year { year } => Answer::Year(year_of_entries(book, image, year)),
         Request::Page { account, output } => {
             Answer::Page(page(book, *account, output.bytes_mut())?)
         }
@@ -119,6 +124,13 @@ fn contribution(book: &Book, account: u16, node: u8, serial: u32) -> Given<Contr
     let reply = book.contribution_query(account, node, serial);
     accept(reply.refusal)?;
     Ok(reply.into())
+}
+
+/// The totals of a year, of which the plain book keeps the same.
+fn year_of_entries(book: &Book, image: &[u8], year: u16) -> YearGiven {
+    let totals = summed::year_totals(year, &taken(&entries_of(image)));
+    assert_eq!(book.year_totals(year), totals, "{year} in the plain book");
+    totals.into()
 }
 
 fn page(book: &Book, account: u16, output: &mut [u8]) -> Given<PageGiven> {

@@ -3,6 +3,9 @@
 
 use contribution_book::plain::*;
 
+/// Days from the first of a common year to its last.
+const COMMON_YEAR: u32 = 364;
+
 #[derive(Clone)]
 pub struct History {
     book: Book,
@@ -46,6 +49,24 @@ impl History {
         let mut history = History::empty();
         for raw in &self.entries[..count] {
             history.record(raw);
+        }
+        history
+    }
+
+    /// The history of these entries with all their days in the year of the book
+    /// that is nearest to `year`, in their order, without entries that are
+    /// refused then.
+    pub fn in_year(&self, year: u16) -> History {
+        let first_day = day_of(Date {
+            year: year.clamp(2000, 2099),
+            month: 1,
+            day: 1,
+        });
+        let mut history = History::empty();
+        for raw in &self.entries {
+            let days = u32::from(raw.day) * COMMON_YEAR / u32::from(LAST_DAY);
+            let day = first_day + days as u16;
+            history.record(&Raw { day, ..*raw });
         }
         history
     }

@@ -12,6 +12,8 @@ use contribution_book::plain::{
 pub enum Kind {
     /// Saved by the plain book.
     Saved,
+    /// Saved too; all its days are in one year.
+    OneYear,
     /// Cut or lengthened.
     Length,
     /// A byte of the mark or of the header's zeros is another.
@@ -31,8 +33,9 @@ pub enum Kind {
 }
 
 impl Kind {
-    pub const ALL: [Kind; 9] = [
+    pub const ALL: [Kind; 10] = [
         Kind::Saved,
+        Kind::OneYear,
         Kind::Length,
         Kind::Header,
         Kind::Count,

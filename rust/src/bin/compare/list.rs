@@ -7,6 +7,7 @@ use crate::expected::Expected;
 use crate::history::History;
 use crate::images::{self, Kind};
 use crate::random::Random;
+use crate::years;
 use contribution_book::plain::*;
 
 pub struct List {
@@ -40,16 +41,18 @@ impl List {
     /// The next call, until the list ends.
     pub fn next_call(&mut self) -> Option<Call> {
         self.calls = self.calls.checked_sub(1)?;
-        let request = match self.random.below(9) {
+        let request = match self.random.below(10) {
             0 => Request::Check,
             1..=3 => self.post(),
             4 | 5 => self.carry_over(),
             6 => self.statement(),
             7 => self.contribution(),
+            8 => self.year(),
             _ => self.page(),
         };
-        let (image_kind, image) = match self.random.below(2) {
-            0 => (Kind::Saved, self.history.image()),
+        let (image_kind, image) = match (self.random.below(8), &request) {
+            (0, Request::Year { year }) => (Kind::OneYear, self.history.in_year(*year).image()),
+            (0..=3, _) => (Kind::Saved, self.history.image()),
             _ => images::damaged(&mut self.random, &self.pool, &self.history),
         };
         Some(Call {
@@ -171,6 +174,19 @@ impl List {
             node: raw.node,
             serial: raw.serial,
         }
+    }
+
+    /// Mostly the year of one of the entries, often of one that paid out.
+    fn year(&mut self) -> Request {
+        let entries = self.history.entries();
+        let paying = years::paying(entries);
+        let year = match self.random.below(8) {
+            0 => self.random.pick(&[0, 1_999, 2_100, u16::MAX]),
+            1..=3 if !paying.is_empty() => year_of(self.random.pick(&paying).day),
+            1..=6 if !entries.is_empty() => year_of(self.random.pick(entries).day),
+            _ => self.random.within(1_999..=2_100),
+        };
+        Request::Year { year }
     }
 
     fn page(&mut self) -> Request {

@@ -17,6 +17,7 @@ mod random;
 mod tally;
 #[cfg(test)]
 mod tests;
+mod years;
 
 use call::Call;
 use difference::compare;
@@ -51,7 +52,7 @@ fn main() -> ExitCode {
 fn options(mut words: impl Iterator<Item = String>) -> Result<Options, String> {
     let mut options = Options {
         seed: 1,
-        lists: 6_000,
+        lists: 6_600,
         list: None,
     };
     while let Some(word) = words.next() {

@@ -1,20 +1,20 @@
 //! What was tried: calls, images and entries by kind and by refusal number, late
-//! charges, bills of zero days served, entries at a half, and entries at the end
-//! of a period.
+//! charges, bills of zero days served, entries at a half, entries at the end of a
+//! period, and years by what they have.
 
-use crate::call::{Call, Request, KINDS};
+use crate::call::{Answer, Call, Request, KINDS};
 use crate::entries::{is_for_no_day, is_late_charge, names_one};
 use crate::expected::Expected;
 use crate::periods::{self, Period};
-use crate::{halves, images};
+use crate::{halves, images, years};
 use contribution_book::plain::{
     parse_record, Raw, ADDED_CUSTOMER, ENTRIES, LAST_KIND, LAST_POSTED_KIND, RECORD,
 };
 use std::fmt;
 
-/// How often each refusal number that can be given has to be met, and each
-/// kind of entry accepted, late charges in images, the others also at a half and
-/// at the end of a period.
+/// How often each refusal number that can be given has to be met, each kind of
+/// entry accepted, late charges in images, the others also at a half and at the
+/// end of a period, and each of `years::PARTS` met.
 const LEAST: u64 = 100;
 /// How many calls have to be compared.
 const LEAST_CALLS: u64 = 100_000;
@@ -35,6 +35,7 @@ const OF_CALLS: [Possible; KINDS.len()] = [
     |number| matches!(number, 0 | 17 | 21 | 22),
     |number| matches!(number, 0 | 3),
     |number| matches!(number, 0 | 2 | 3 | 8),
+    |number| number == 0,
     |number| matches!(number, 0 | 3 | 23),
 ];
 
@@ -188,6 +189,8 @@ pub struct Tally {
     offered: [Sort; SORTS.len()],
     /// Each sort in accepted images, which are counted, and as records at fault.
     in_images: [Sort; SORTS.len()],
+    /// Queries of a year that met each of `years::PARTS`.
+    years: [u64; years::PARTS.len()],
 }
 
 impl Tally {
@@ -203,6 +206,7 @@ impl Tally {
             ends: [[[0; 3]; periods::KINDS.len()]; Period::ALL.len()],
             offered: Sort::offered(),
             in_images: Sort::in_images(),
+            years: [0; years::PARTS.len()],
         }
     }
 
@@ -224,6 +228,7 @@ impl Tally {
         self.sizes[size(call.image.bytes().len() / RECORD - 1)] += 1;
         self.calls[kind].add(expected.refusal);
         self.count_entries(call, expected.refusal);
+        self.count_year(call, &expected.answer);
     }
 
     /// Counts the record at fault in a refused image.
@@ -294,6 +299,17 @@ impl Tally {
         }
     }
 
+    /// Counts a query of a year of an accepted image.
+    fn count_year(&mut self, call: &Call, answer: &Answer) {
+        let (Request::Year { year }, Answer::Year(given)) = (&call.request, answer) else {
+            return;
+        };
+        let taken = years::taken(&images::entries_of(call.image.bytes()));
+        for ((_, meets), count) in years::PARTS.iter().zip(&mut self.years) {
+            *count += u64::from(meets(given, *year, &taken));
+        }
+    }
+
     /// What was not tried often enough, a line for each.
     pub fn shortages(&self) -> Vec<String> {
         let mut shortages = Vec::new();
@@ -342,6 +358,8 @@ impl Tally {
         for (period, rows) in Period::ALL.into_iter().zip(&self.ends) {
             tried.extend(tried_at_end(period, rows));
         }
+        let parts = years::PARTS.iter().zip(self.years);
+        tried.extend(parts.map(|((name, _), met)| (name.to_string(), met)));
         tried
     }
 
@@ -439,6 +457,10 @@ impl fmt::Display for Tally {
         for (period, rows) in Period::ALL.into_iter().zip(&self.ends) {
             writeln!(out, "\nEntries {}", period.at_end())?;
             write_counts(out, AT_END, &kinds, rows)?;
+        }
+        writeln!(out, "\nYears of accepted images")?;
+        for ((name, _), met) in years::PARTS.iter().zip(self.years) {
+            writeln!(out, "{name:>41} {met:>10}")?;
         }
         self.write_sorts(out)
     }

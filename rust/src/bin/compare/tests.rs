@@ -9,8 +9,10 @@ use crate::halves;
 use crate::images::entries_of;
 use crate::periods::{self, Period};
 use crate::tally::Tally;
+use crate::years;
 use contribution_book::plain::*;
-use contribution_book::proved::CheckGiven;
+use contribution_book::proved::{CheckGiven, YearGiven};
+use contribution_book::summed::{self, is_in, Taken};
 
 /// How many lists are compared where no difference is found before.
 const LISTS: u64 = 4_000;
@@ -513,6 +515,204 @@ fn load_by(call: &Call, answer: &mut Answer, (kind, number): (u8, u8), other_end
     }
 }
 
+/// What another library gives of a year, from the plain book's totals and the
+/// entries of the image.
+type OtherYear = fn(YearGiven, u16, &[Taken]) -> YearGiven;
+
+const OTHER_YEARS: [(&str, OtherYear); 24] = [
+    ("a correction in its own year", |given, year, taken| {
+        let moved = with_moves(given, taken, |old, new, raw, _| {
+            is_in(year, raw).then_some((old, new))
+        });
+        not_restated(moved, year, taken)
+    }),
+    ("amounts not restated", not_restated),
+    ("the old amount left in", |given, year, taken| {
+        with_moves(given, taken, |old, _, _, named| {
+            is_in(year, named).then_some((0, old))
+        })
+    }),
+    ("the new amount left out", |given, year, taken| {
+        with_moves(given, taken, |_, new, _, named| {
+            is_in(year, named).then_some((new, 0))
+        })
+    }),
+    ("corrections are no entries", |given, year, taken| {
+        let corrections = of_kind(CORRECTION, year, taken).count();
+        YearGiven {
+            entries: given.entries - corrections as u16,
+            ..given
+        }
+    }),
+    ("an entry too few", |given, _, _| YearGiven {
+        entries: given.entries.saturating_sub(1),
+        ..given
+    }),
+    ("late charges left out", |given, year, taken| {
+        let late_charges = of_kind(LATE_CHARGE, year, taken);
+        let sum: u64 = late_charges.map(|(raw, _)| u64::from(raw.amount)).sum();
+        YearGiven {
+            bills: given.bills - sum,
+            ..given
+        }
+    }),
+    ("bills at their charge", |given, year, taken| {
+        let full = |raw: Raw| match raw.kind {
+            BILL => Raw { a: 1, b: 1, ..raw },
+            _ => raw,
+        };
+        let taken: Vec<Taken> = taken.iter().map(|&(raw, paid)| (full(raw), paid)).collect();
+        YearGiven {
+            bills: of_year(year, &taken).bills,
+            ..given
+        }
+    }),
+    ("refunds not paid out", |given, year, taken| {
+        without_paid_out(given, ADDED_CUSTOMER, year, taken)
+    }),
+    ("deposit returns not paid out", |given, year, taken| {
+        without_paid_out(given, DEPOSIT_RETURN, year, taken)
+    }),
+    ("reductions not paid out", |given, year, taken| {
+        without_paid_out(given, REDUCTION, year, taken)
+    }),
+    ("one account alone", |_, year, taken| {
+        let of_first = |other: &&Taken| other.0.account == taken[0].0.account;
+        let of_first: Vec<Taken> = taken.iter().filter(of_first).copied().collect();
+        of_year(year, &of_first)
+    }),
+    ("entries in 8 bits", |given, _, _| YearGiven {
+        entries: given.entries & 0xFF,
+        ..given
+    }),
+    ("bills in 32 bits", |given, _, _| YearGiven {
+        bills: given.bills & 0xFFFF_FFFF,
+        ..given
+    }),
+    ("payments in 32 bits", |given, _, _| YearGiven {
+        payments: given.payments & 0xFFFF_FFFF,
+        ..given
+    }),
+    ("a year later", |_, year, taken| {
+        of_year(year.wrapping_sub(1), taken)
+    }),
+    ("a year earlier", |_, year, taken| {
+        of_year(year.wrapping_add(1), taken)
+    }),
+    ("31 December in the next year", |given, year, taken| {
+        by_day(given, taken, |day| {
+            day < LAST_DAY && year_of(day + 1) == year
+        })
+    }),
+    ("1 January in the year before", |given, year, taken| {
+        by_day(given, taken, |day| year_of(day.saturating_sub(1)) == year)
+    }),
+    ("years of 365 days", |given, year, taken| {
+        by_day(given, taken, |day| 2000 + day / 365 == year)
+    }),
+    ("1999 reads 2000", |given, year, taken| {
+        if_asked(given, year == 1999, 2000, taken)
+    }),
+    ("2100 reads 2099", |given, year, taken| {
+        if_asked(given, year == 2100, 2099, taken)
+    }),
+    ("0 reads 2000", |given, year, taken| {
+        if_asked(given, year == 0, 2000, taken)
+    }),
+    ("the largest year reads 2099", |given, year, taken| {
+        if_asked(given, year == u16::MAX, 2099, taken)
+    }),
+];
+
+/// What a year of a book with these entries gives.
+fn of_year(year: u16, taken: &[Taken]) -> YearGiven {
+    summed::year_totals(year, taken).into()
+}
+
+/// What the other year gives, where it is asked for.
+fn if_asked(given: YearGiven, asked: bool, other: u16, taken: &[Taken]) -> YearGiven {
+    match asked {
+        true => of_year(other, taken),
+        false => given,
+    }
+}
+
+/// The year has as many entries as there are with such a day.
+fn by_day(given: YearGiven, taken: &[Taken], is_in: impl Fn(u16) -> bool) -> YearGiven {
+    let of_year = taken.iter().filter(|(raw, _)| is_in(raw.day));
+    YearGiven {
+        entries: of_year.count() as u16,
+        ..given
+    }
+}
+
+/// The entries of a kind in a year.
+fn of_kind(kind: u8, year: u16, taken: &[Taken]) -> impl Iterator<Item = &Taken> {
+    let of_year = taken.iter().filter(move |(raw, _)| is_in(year, raw));
+    of_year.filter(move |(raw, _)| raw.kind == kind)
+}
+
+fn without_paid_out(given: YearGiven, kind: u8, year: u16, taken: &[Taken]) -> YearGiven {
+    let paid_out: u64 = of_kind(kind, year, taken).map(|taken| taken.1).sum();
+    YearGiven {
+        paid_out: given.paid_out - paid_out,
+        ..given
+    }
+}
+
+/// The year's corrected bills and payments stay in its sums as they were posted.
+fn not_restated(given: YearGiven, year: u16, taken: &[Taken]) -> YearGiven {
+    with_moves(given, taken, |old, new, _, named| {
+        is_in(year, named).then_some((new, old))
+    })
+}
+
+/// The sum of bills or payments loses and gains these amounts for each correction.
+/// They are given from the old amount, the new one, the correction and the entry
+/// that it corrects.
+fn with_moves(
+    mut given: YearGiven,
+    taken: &[Taken],
+    moves: impl Fn(u64, u64, &Raw, &Raw) -> Option<(u64, u64)>,
+) -> YearGiven {
+    for (raw, named) in years::corrections(taken) {
+        let posted = of_year(year_of(named.day), &[(named, 0)]);
+        let old = posted.bills + posted.payments;
+        let amounts = moves(old, raw.amount.into(), &raw, &named);
+        let (loses, gains) = amounts.unwrap_or((0, 0));
+        let sum = match named.kind {
+            BILL => &mut given.bills,
+            _ => &mut given.payments,
+        };
+        *sum = sum.wrapping_add(gains).wrapping_sub(loses);
+    }
+    given
+}
+
+/// Gives an accepted query of a year another answer.
+fn answer_other_year(call: &Call, answer: &mut Answer, other: OtherYear) {
+    let (&Request::Year { year }, Answer::Year(given)) = (&call.request, answer) else {
+        return;
+    };
+    let taken = years::taken(&entries_of(call.image.bytes()));
+    if given.refusal == 0 && !taken.is_empty() {
+        *given = other(*given, year, &taken);
+    }
+}
+
+/// The record at fault, and those before it, count in the year asked for.
+fn count_refused_record(call: &Call, answer: &mut Answer) {
+    let (&Request::Year { year }, Answer::Year(given)) = (&call.request, answer) else {
+        return;
+    };
+    if given.record > 0 {
+        let entries = entries_of(call.image.bytes());
+        let counted = entries.iter().take(given.record.into());
+        let of_year = counted.filter(|raw| is_in(year, raw));
+        given.entries = of_year.count() as u16;
+    }
+}
+
 /// Writes a space at this line and column, counted from 1, of an accepted page.
 fn put_space(call: &mut Call, answer: &Answer, line: usize, column: usize) {
     let (Request::Page { output, .. }, Answer::Page(given)) = (&mut call.request, answer) else {
@@ -703,6 +903,16 @@ fn every_other_end_of_a_period_is_found() {
 }
 
 #[test]
+fn every_other_year_is_found() {
+    for (name, other) in OTHER_YEARS {
+        let found = first_difference(|call, answer| answer_other_year(call, answer, other));
+        assert!(found.is_some(), "{name}");
+    }
+    let found = first_difference(|call, answer| count_refused_record(call, answer));
+    assert!(found.is_some(), "a refused record counted");
+}
+
+#[test]
 fn whole_cents_of_halves() {
     let of_kind = |kind| Raw {
         kind,
@@ -774,6 +984,63 @@ fn entries_at_the_end_of_a_period() {
     }
 }
 
+/// Entries of node 1 and account 5 with serials from 1 on: kind, day, amount and
+/// named serial.
+fn numbered(entries: &[(u8, u16, u32, u32)]) -> Vec<Raw> {
+    let numbered = |(serial, &(kind, day, amount, named_serial))| Raw {
+        kind,
+        node: 1,
+        account: 5,
+        day,
+        serial,
+        amount,
+        named_serial,
+        named_node: u8::from(named_serial > 0),
+        a: u16::from(kind == BILL),
+        b: u8::from(kind == BILL),
+    };
+    (1..).zip(entries).map(numbered).collect()
+}
+
+#[test]
+fn what_a_year_has() {
+    let entries = numbered(&[
+        (BILL, 365, 500, 0),
+        (PAYMENT, 366, 300, 0),
+        (CORRECTION, 366, 400, 1),
+        (DEPOSIT, 400, 1_000, 0),
+        // 100 to arrears, 900 paid out.
+        (DEPOSIT_RETURN, 730, 0, 0),
+        (LATE_CHARGE, 1_000, 70, 0),
+    ]);
+    let taken = years::taken(&entries);
+    assert_eq!(taken[4].1, 900);
+    let has = |year| {
+        let given = of_year(year, &taken);
+        let parts = years::PARTS.iter();
+        let met = parts.filter(|(_, meets)| meets(&given, year, &taken));
+        met.map(|(name, _)| *name).collect::<Vec<&str>>()
+    };
+    let of_2000 = [
+        "year with bills",
+        "year with an entry corrected in another",
+        "year with an entry on its last day",
+    ];
+    assert_eq!(has(2000), of_2000);
+    let of_2001 = [
+        "year with payments",
+        "year with a deposit return paid out",
+        "year with a correction of another's entry",
+        "year with an entry on its first day",
+        "year with an entry on its last day",
+    ];
+    assert_eq!(has(2001), of_2001);
+    assert_eq!(has(2002), ["year with bills", "year with late charges"]);
+    assert_eq!(has(2003), ["year without entries"]);
+    assert_eq!(has(1999), ["year before 2000"]);
+    assert_eq!(has(2100), ["year after 2099"]);
+}
+
 #[test]
 fn a_list_seed_gives_the_same_difference_again() {
     for (name, slip) in ANSWER_SLIPS {
@@ -810,6 +1077,10 @@ fn what_was_tried_too_rarely_is_named() {
          fewer than 100 times",
         "retention on 2099-12-31 in a period that doesn't end: refusal number 26 \
          fewer than 100 times",
+        "image of year: refusal number 20 fewer than 100 times",
+        "year with a reduction paid out fewer than 100 times",
+        "year with an entry corrected in another fewer than 100 times",
+        "year after 2099 fewer than 100 times",
     ] {
         assert!(shortages.iter().any(|shortage| shortage == line), "{line}");
     }
