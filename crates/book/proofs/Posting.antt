@@ -12,6 +12,7 @@ use Rattle.entries.specs.Data.{no_entry, with_of, points_at}
 use Rattle.entries.specs.Refusals.{Check, decided_of}
 use Rattle.entries.specs.declared.arrivals.Arrival.{Arrival}
 use Rattle.entries.specs.declared.data.Data.{Data}
+use Rattle.entries.specs.declared.data.Entry.{Entry}
 use Rattle.entries.specs.declared.raw.Raw.{Raw}
 use Rattle.entries.specs.declared.kinds.Kind.{Kind}
 use Rattle.entries.specs.declared.kinds.Kind.TheVariants as kind
@@ -24,6 +25,7 @@ use Rattle.changes.specs.declared.Change.{Change}
 use Rattle.book.specs.Fresh.{entries_most}
 use Rattle.book.specs.Refusals.{entry_rows, check_entry_of, searched_of, decision_by}
 use Rattle.book.specs.Runs.{arrival_of}
+use Rattle.book.specs.Chain.{link_of}
 use Rattle.book.specs.Serials.{last_of}
 use Rattle.book.specs.Posting.{account_at, lookup_of, paid_of, stored_of, decided_book, decision_of, answer_of, enter_of, post_of, posts_of}
 use Rattle.changes.specs.declared.Link.{Link}
@@ -31,7 +33,7 @@ use Rattle.book.specs.declared.Book.{Book}
 use Rattle.book.specs.declared.Found.{Found}
 use Rattle.book.specs.declared.Found.TheVariants.{At, Nothing}
 use Rattle.book.proofs.ChainLaws.{found_inside, found_entry}
-use Rattle.std.specs.Prelude.{IfSome, Ok, Err}
+use Rattle.std.specs.Prelude.{IfSome, Some, Ok, Err}
 
 pub decided_passed : (c : Check) (o : Decision) (x : Change) → decided_of c Err o ≡ Ok x → (c ≡ Ok tt) × (o ≡ Ok x)
 unfolding decided_of
@@ -88,10 +90,17 @@ module _ (P : Link → Type 0) where
       go true (At l) p q = subst (λ (y : Change). IfSome y.named P) (is _ _ q) (naming_named r _ _ _ l (λ d. h l d p))
       go false f p q = subst (λ (y : Change). IfSome y.named P) (is _ _ q) (own_named r _ _)
 
+-- it stands where the search found an entry
+pub names_found : (w : Arrival) (b : Book) (r : Raw) (x : Change) (l : Link) → decision_of w b r ≡ Ok x → x.named ≡ Some l →
+    (f : Entry) × (lookup_of b r ≡ At (link_of l.place f))
+names_found w b r x l e n =
+    let P : Link → Type 0 = λ k. (f : Entry) × (lookup_of b r ≡ At (link_of k.place f)) in
+    subst (λ o. IfSome o P) n (named_holds P w b r x (λ k d p. (k.entry, p)) e)
+
 -- it stands inside the book
 pub named_inside : (w : Arrival) (b : Book) (r : Raw) (x : Change) → decision_of w b r ≡ Ok x → IfSome x.named (λ l. l.place < entries_most)
 unfolding lookup_of
-named_inside w b r x = named_holds _ w b r x (λ l d. found_inside b.entries (points_at r) entries_most _)
+named_inside w b r x = named_holds _ w b r x (λ l d. found_inside b.entries (points_at r) _ _)
 
 -- and is the book's entry of its place, but for its data
 pub named_kept : (w : Arrival) (b : Book) (r : Raw) (x : Change) → decision_of w b r ≡ Ok x →
@@ -99,7 +108,7 @@ pub named_kept : (w : Arrival) (b : Book) (r : Raw) (x : Change) → decision_of
 unfolding lookup_of with_of
 named_kept w b r x =
     named_holds _ w b r x
-    (λ l d p. ap (λ e. with_of e d) (found_entry b.entries (points_at r) entries_most _ p))
+    (λ l d p. ap (λ e. with_of e d) (found_entry b.entries (points_at r) _ _ p))
 
 pub enter_refused : (w : Arrival) (b : Book) (r : Raw) (n : Refusal) → decision_of w b r ≡ Err n → enter_of w b r ≡ record { book = b; reply = posting_reply_of (Err n) }
 unfolding enter_of decided_book answer_of

@@ -1,5 +1,4 @@
 -- What a turn of `carry_over` knows of the books and the lists.
---     numbered                the number of what a posting answers
 --     Turn b₀ xs rs i b zs    i of the entries xs are posted to b₀, which made b; the result list, rs at first, is zs
 --     next                    after one more
 --     refused, accepted       what the contract says where the result list is too short, and at the end
@@ -12,17 +11,10 @@ use Rattle.entries.specs.declared.raw.Raw.{Raw}
 use Rattle.entries.specs.declared.refusals.Refusal.TheVariants.{ResultsShort}
 use Rattle.book.specs.declared.Book.{Book}
 use Rattle.book.specs.Posting.{post_of, posts_of}
-use Rattle.entries.specs.Refusals.{refusal_number, check_number, Check}
-use Rattle.rules.specs.Answers.{PostingAnswer, posting_reply_of}
+use Rattle.entries.specs.Refusals.{check_number, Check}
 use Rattle.book.specs.declared.Next.{Next}
-use Rattle.std.specs.Prelude.{Ok, Err, MatchResult}
+use Rattle.std.specs.Prelude.{Ok, Err}
 use Rattle.carry.specs.Carry.{refusals_of, short_of, carry_refusal_of, carry_book_of, carry_results_of, carried_reply, carry_of}
-
--- an answer's refusal number is its reply's
-pub numbered : (a : PostingAnswer) (n : ℕ) → MatchResult a (λ _. n ≡ 0) (λ r. n ≡ refusal_number r) → n ≡ (posting_reply_of a).refusal
-unfolding posting_reply_of
-numbered (Ok x) n e = e
-numbered (Err r) n e = e
 
 -- stands for what lies past the end of the entries
 abbrev pub no_raw : Raw

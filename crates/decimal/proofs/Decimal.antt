@@ -142,6 +142,12 @@ pub left_room : {text columns : List ℕ} {at rest : ℕ} → Left text columns 
 left_room {text} {columns} {at} {rest} k =
     omega (arith, some_digits rest, k.room, k.filled, simp (length-append, length-drop) at (ap length k.whole))
 
+-- and so is there where a line is to end in the digits of a number of 64 bits and the columns after them
+pub digit_room : (n end : ℕ) (columns shown : List ℕ) (at rest : ℕ) → n < 18446744073709551616 → 20 ≤ end → end ≤ line_columns →
+    length columns ≡ line_columns → length shown ≡ line_columns → digits rest ++ drop at shown ≡ digits n ++ drop end columns → 0 < at
+digit_room n end columns shown at rest few low high all filled whole =
+    omega (arith, some_digits rest, at_most_twenty n few, simp (length-append, length-drop) at (ap length whole))
+
 -- before the first: the number has 64 bits
 pub left_all : (n end : ℕ) (columns : List ℕ) → n < 18446744073709551616 → 20 ≤ end → end ≤ line_columns → length columns ≡ line_columns →
     take end columns ≡ replicate end space → Left (digits n ++ drop end columns) columns end n

@@ -1,7 +1,7 @@
--- Laws of a page's lines: how long they are, and their form.
+-- Laws of a page's lines: an entry's columns, how long lines are, and their form.
 use Prim.Native.Nat.{ℕ, zero, suc, ◌*◌, ◌≤◌, ◌<◌}
 use mathlib.Core.Path.{◌≡◌, refl, ap, ◌∙◌}
-use mathlib.Core.List.{List, [], ◌∷◌, ◌++◌, map}
+use mathlib.Core.List.{List, [], ◌∷◌, ◌++◌, map, append_assoc}
 use native.Mathlib.Omega.{arith}
 use lib.ListN.{length, take, drop, length-append}
 use lib.Seq.{take_at, drop_at}
@@ -10,7 +10,7 @@ use Rattle.decimal.proofs.Decimal.{decimal_text, at_most_twenty_one}
 use Rattle.queries.specs.declared.statements.StatementReply.{StatementReply}
 use Rattle.pages.specs.Rows.{line_bytes, entries_shown, closed, blank_row, account_row, figure_row, entry_row, entry_rows, figure_rows, head_rows, text_of, Line, AllLines, FiguresFit, EntryFits, AllFit, PageForm, EntryLine}
 
-blank_long : length blank_row ≡ line_bytes
+pub blank_long : length blank_row ≡ line_bytes
 unfolding blank_row right
 blank_long = refl
 
@@ -18,16 +18,22 @@ from_end : drop line_columns blank_row ≡ newline ∷ []
 unfolding blank_row right
 from_end = refl
 
+-- an entry's fields, one after another, and the end of the line
+pub entry_row_lem : (l : EntryLine) →
+    (((right 4 (digits l.number) ++ right 6 (digits l.day)) ++ right 3 (digits l.kind)) ++ right 67 (dollars l.amount)) ++ drop line_columns blank_row ≡ entry_row l
+unfolding entry_row
+entry_row_lem l = simp (from_end, append_assoc)
+
 -- THE FORM OF A PAGE
 
 closed_line : (columns : List ℕ) → length columns ≡ line_columns → Line (closed columns)
 closed_line columns h =
     record { long = omega (arith, length-append columns (newline ∷ [])); end = drop_at columns (newline ∷ []) line_columns h }
 
-blank_line : Line blank_row
+pub blank_line : Line blank_row
 blank_line = record { long = blank_long; end = from_end }
 
-account_line_lem : (account : ℕ) → account < 1000 → Line (account_row account)
+pub account_line_lem : (account : ℕ) → account < 1000 → Line (account_row account)
 unfolding account_row
 account_line_lem account h =
     closed_line (right 3 (digits account) ++ right 77 [])
@@ -38,7 +44,7 @@ account_line_lem account h =
       (decimal_text.field 77 [] (omega arith) (omega arith)).0,
     ))
 
-figure_line : (cents : ℕ) → cents < 18446744073709551616 → Line (figure_row cents)
+pub figure_line : (cents : ℕ) → cents < 18446744073709551616 → Line (figure_row cents)
 unfolding figure_row
 figure_line cents h =
     closed_line (right line_columns (dollars cents)) (decimal_text.field line_columns (dollars cents) (omega (arith, at_most_twenty_one cents h)) (omega arith)).0
@@ -59,7 +65,7 @@ entry_room l f =
       amount = omega (arith, at_most_twenty_one l.amount f.amount);
     }
 
-entry_line : (l : EntryLine) → EntryFits l → Line (entry_row l)
+pub entry_line : (l : EntryLine) → EntryFits l → Line (entry_row l)
 unfolding entry_row
 entry_line l f =
     let n = right 4 (digits l.number) in
@@ -102,13 +108,13 @@ entries_shown_lem zero ls h = refl
 entries_shown_lem (suc n) [] h = absurd (omega arith)
 entries_shown_lem (suc n) (l ∷ ls) h = ap (λ rows. entry_row l ∷ rows) (entries_shown_lem n ls (omega arith))
 
-figures_lines : (s : StatementReply) → FiguresFit s → AllLines (figure_rows s)
+pub figures_lines : (s : StatementReply) → FiguresFit s → AllLines (figure_rows s)
 figures_lines s f = (
   figure_line s.arrears f.arrears,
   (figure_line s.credit f.credit, (figure_line s.deposit f.deposit, (figure_line s.held f.held, tt))),
 )
 
-head_lines : (account : ℕ) (s : StatementReply) → account < 1000 → FiguresFit s → AllLines (head_rows account s)
+pub head_lines : (account : ℕ) (s : StatementReply) → account < 1000 → FiguresFit s → AllLines (head_rows account s)
 head_lines account s h f =
     (account_line_lem account h, (blank_line, both_lines (figure_rows s) (blank_row ∷ []) (figures_lines s f) (blank_line, tt)))
 

@@ -1,1 +1,2 @@
+pub mod AnswersLaws
 pub mod FormulasLaws

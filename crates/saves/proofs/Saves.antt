@@ -42,7 +42,7 @@ records_step b i d h =
 abbrev pub begun_of : Book → ℕ → ℕ → List ℕ
 begun_of b n i = header_of n ++ encode_all (records_of b i)
 
-length_begun : (b : Book) (n i : ℕ) → i ≤ length b.entries → length (begun_of b n i) ≡ record_bytes * (i + 1)
+pub length_begun : (b : Book) (n i : ℕ) → i ≤ length b.entries → length (begun_of b n i) ≡ record_bytes * (i + 1)
 length_begun b n i h =
     omega (arith, length-append (header_of n) (encode_all (records_of b i)), length_header n, length_encode_all (records_of b i), length_records b i h)
 

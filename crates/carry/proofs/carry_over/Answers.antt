@@ -1,6 +1,7 @@
 use Rattle.std.proofs.Common.{◌<◌, length, ap, ◌∙◌, arith}
 use Rattle.book.specs.Posting.{PostedReply}
-use Rattle.carry.proofs.Carry.{numbered, refused, next, accepted}
+use Rattle.rules.proofs.AnswersLaws.{numbered}
+use Rattle.carry.proofs.Carry.{refused, next, accepted}
 use Rattle.carry.proofs.carry_over.Goals as goal
 
 pub returns-then-results-entries : goal.returns-then-results-entries

@@ -3,7 +3,7 @@ use Rattle.codec.proofs.Records.{record_next, records_end}
 use Rattle.book.specs.Posting.{PostedReply}
 use Rattle.image_carry.specs.Carries.{read_entries}
 use Rattle.image_carry.proofs.Carries.{posts_next, posts_end, put_next, put_end}
-use Rattle.carry.proofs.Carry.{numbered}
+use Rattle.rules.proofs.AnswersLaws.{numbered}
 use Rattle.image_carry.proofs.post_all.Goals as goal
 
 pub loop-i-init : goal.loop-i-init
