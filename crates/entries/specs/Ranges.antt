@@ -4,6 +4,7 @@ use Rattle.std.specs.declared.ops.RangeInclusive.{RangeInclusive}
 use Rattle.entries.specs.Kinds.{names_of}
 use Rattle.entries.specs.declared.kinds.BRange.{BRange}
 use Rattle.entries.specs.declared.kinds.BRange.TheVariants.{Phases, UpTo}
+use Rattle.entries.specs.declared.kinds.Ends.{Ends}
 use Rattle.entries.specs.declared.kinds.Limits.{Limits}
 use Rattle.entries.specs.declared.kinds.Kind.{Kind}
 use Rattle.entries.specs.declared.kinds.Kind.TheVariants as kind
@@ -21,8 +22,12 @@ abbrev pub bill_period_most : ℕ
 bill_period_most = 62
 
 -- a range, both ends included
-abbrev pub range : ℕ → ℕ → RangeInclusive ℕ
-range low high = record { start = low; end = high; exhausted = false }
+abbrev pub range : ℕ → ℕ → Ends ℕ
+range low high = record { start = low; end = high }
+
+-- the ends of a range of the library
+abbrev pub ends_of : {N : Type 0} → RangeInclusive N → Ends N
+ends_of r = record { start = r.start; end = r.end }
 
 abbrev pub row : ℕ → ℕ → ℕ → ℕ → BRange → Limits
 row amount_low amount_high a_low a_high b = record { amount = range amount_low amount_high; a = range a_low a_high; b = b }

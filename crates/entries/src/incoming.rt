@@ -47,9 +47,9 @@ impl Incoming {
         ensures { result ≡ in_range_of self.raw self.kind }
     {
         let limits = self.kind.limits(self.raw.a);
-        limits.amount.contains(&self.raw.amount)
+        limits.amount.range().contains(&self.raw.amount)
             && self.named_fits()
-            && limits.a.contains(&self.raw.a)
+            && limits.a.range().contains(&self.raw.a)
             && limits.b.contains(self.raw.b)
     }
 }

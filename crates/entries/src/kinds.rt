@@ -1,7 +1,7 @@
 // The kinds of entries, and the ranges of each kind's fields.
 ghost use Rattle.std.specs.Prelude.{◌≡◌, false};
 ghost use Rattle.entries.specs.Kinds.{kind_of, number_of, counts_with_bills, names_guarantee_of, names_of, misnames_of};
-ghost use Rattle.entries.specs.Ranges.{b_fits, limits_of};
+ghost use Rattle.entries.specs.Ranges.{ends_of, b_fits, limits_of};
 
 use std::ops::RangeInclusive;
 
@@ -31,11 +31,18 @@ pub enum BRange {
     UpTo(u16),
 }
 
+// Both ends of a range. A range of the library is not copied, and a row of the table is.
+#[derive(Clone, Copy)]
+pub struct Ends<N> {
+    pub start: N,
+    pub end: N,
+}
+
 // The ranges of the amount, of a and of b.
-#[derive(Clone, Drop)]
+#[derive(Clone, Copy)]
 pub struct Limits {
-    pub amount: RangeInclusive<u32>,
-    pub a: RangeInclusive<u16>,
+    pub amount: Ends<u32>,
+    pub a: Ends<u16>,
     pub b: BRange,
 }
 
@@ -51,11 +58,33 @@ impl BRange {
     }
 }
 
+impl<N> Ends<N> {
+    // The range, not spent, as one is that has yielded its last value: `contains` reads both ends.
+    pub fn range(self) -> RangeInclusive<N>
+        ensures { result ≡ record { start = self.start; end = self.end; exhausted = false } }
+    {
+        self.start..=self.end
+    }
+}
+
 impl Limits {
     fn row(amount: RangeInclusive<u32>, a: RangeInclusive<u16>, b: BRange) -> Limits
-        ensures { result ≡ record { amount = amount; a = a; b = b } }
+        ensures { result ≡ record { amount = ends_of amount; a = ends_of a; b = b } }
     {
-        Limits { amount, a, b }
+        Limits {
+            amount: amount.into(),
+            a: a.into(),
+            b,
+        }
+    }
+}
+
+impl<N> From<RangeInclusive<N>> for Ends<N> {
+    ghost from_gives = { λ range ends. ends ≡ ends_of range };
+
+    fn from(range: RangeInclusive<N>) -> Ends<N> {
+        let (start, end) = range.into_inner();
+        Ends { start, end }
     }
 }
 
@@ -133,12 +162,10 @@ impl Kind {
         }
     }
 
-    // The ranges of the fields, where a is the entry's field a. None is spent, as one is that has yielded its last value: `contains` reads
-    // both ends.
+    // The ranges of the fields, where a is the entry's field a.
     #[tactic(auto, unfolding(crate::specs::Ranges::limits_of))]
     pub fn limits(self, a: u16) -> Limits
-        ensures rows { result ≡ limits_of self a }
-        ensures unspent { (result.amount.exhausted ≡ false) × (result.a.exhausted ≡ false) }
+        ensures { result ≡ limits_of self a }
     {
         let none = BRange::UpTo(0);
         match self {

@@ -11,6 +11,6 @@ mod refusals;
 pub use arrivals::Arrival;
 pub use data::{Data, Entry, Name, Particulars, one_more};
 pub use incoming::Incoming;
-pub use kinds::{BRange, Kind, Limits};
+pub use kinds::{BRange, Ends, Kind, Limits};
 pub use raw::Raw;
 pub use refusals::{Refusal, refusal_of, refuse_if};
