@@ -2,7 +2,7 @@
 #![tactic(auto)]
 
 use arrayvec::ArrayVec;
-use console::Session;
+use console::Console;
 use std::io;
 use std::io::Read;
 use text::LONGEST_READ;
@@ -10,10 +10,10 @@ use text::LONGEST_READ;
 // Of a line one byte more than the longest is kept, so that a longer one is noticed.
 const KEPT: usize = LONGEST_READ + 1;
 
-// The session, and the line so far.
+// The console, and the line so far.
 #[derive(Drop)]
 struct Reader<'a, P: Print> {
-    session: Session<'a, P>,
+    console: Console<'a, P>,
     line: ArrayVec<u8, KEPT>,
 }
 
@@ -22,7 +22,7 @@ impl<P: Print> Reader<'_, P> {
     fn take(&mut self, piece: &[u8]) -> io::Result<()> {
         for byte in piece {
             if *byte == b'\n' {
-                self.session.answer(self.line.as_slice())?;
+                self.console.answer(self.line.as_slice())?;
                 self.line.clear();
             } else {
                 // A full line takes no more.
@@ -37,7 +37,7 @@ fn main(rt: HostRuntime) -> io::Result<()> {
     let mut input = rt.stdin();
     let mut piece = [0; 65536];
     let mut reader = Reader {
-        session: Session::fresh(&rt),
+        console: Console::fresh(&rt),
         line: ArrayVec::new(),
     };
     // Nothing says that the input ends, so the turns are counted.

@@ -1,241 +1,42 @@
-// What lasts from line to line, and the calls: each writes its letter and the numbers of its answer as a line.
-ghost use Rattle.std.specs.Prelude.{◌<◌};
+// What lasts from line to line, beside the books, the entries for a carry-over and the buffer.
+ghost use Rattle.std.specs.Prelude.{◌≡◌, ◌+◌, ◌<◌, min};
+ghost use Rattle.text.specs.declared.calls.BookNumber.TheVariants.{First};
 
-use arrayvec::ArrayVec;
-use book::{Book, Next};
-use carry::carry_over;
-use entries::{Raw, Refusal, refusal_of};
-use loads::load;
-use pages::page;
-use queries::{ContributionReply, StatementReply, contribution_query, statement, year_totals};
-use rules::{PostingAnswer, PostingReply};
-use runs::{close_run, open_run, step};
-use saves::save;
-use std::io;
-use text::{
-    BUFFER, BookNumber, Call, Change, PLACES, Places, Room, Spaced, Span, Unclear, understood,
-};
+use text::BookNumber;
 
-// The most entries that are listed for a carry-over.
-const LISTED: usize = 64;
-
-#[derive(Drop)]
-pub struct Session<'a, P: Print> {
-    // Where answers go.
-    rt: &'a P,
-    books: [Book; 2],
+#[derive(Clone, Copy)]
+pub struct Session {
     // The book that calls go to.
-    current: BookNumber,
-    // The entries for a carry-over.
-    list: ArrayVec<Raw, LISTED>,
-    buffer: [u8; BUFFER],
+    pub current: BookNumber,
     // The lines read.
-    lines: u64,
+    pub lines: u64,
 }
 
-impl<'a, P: Print> Session<'a, P> {
-    pub fn fresh(rt: &'a P) -> Session<'a, P> {
+impl Session {
+    // Before the first line: calls go to the first book.
+    pub fn fresh() -> Session
+        ensures { result ≡ record { current = First; lines = 0 } }
+    {
         Session {
-            rt,
-            books: [Book::fresh(); 2],
             current: BookNumber::First,
-            list: ArrayVec::new(),
-            buffer: [0; BUFFER],
             lines: 0,
         }
     }
 
-    // Answers a line: makes its call and writes the answer, none where the line is passed over.
-    pub fn answer(&mut self, line: &[u8]) -> io::Result<()> {
-        self.lines = self.lines.saturating_add(1);
-        match understood(line) {
-            Ok(Some(call)) => self.make(call),
-            Ok(None) => Ok(()),
-            Err(Unclear) => self.tell_unclear(),
-        }
-    }
-
-    fn make(&mut self, call: Call) -> io::Result<()> {
-        match call {
-            Call::Turn(number) => self.turn(number),
-            Call::Post(entry) => self.post(entry),
-            Call::List(entry) => self.list(entry),
-            Call::CarryOver(places) => self.carry_over(places),
-            Call::Statement { account, allowance } => self.statement(account, allowance),
-            Call::Contribution {
-                account,
-                node,
-                serial,
-            } => self.contribution(account, node, serial),
-            Call::Year(year) => self.year(year),
-            Call::Page { account, room } => self.page(account, room),
-            Call::Save(room) => self.save(room),
-            Call::Load(room) => self.load(room),
-            Call::OpenRun { node, day, rate } => self.open_run(node, day, rate),
-            Call::Step => self.step(),
-            Call::CloseRun => self.close_run(),
-            Call::Set(change) => self.set(&change),
-            Call::Show(span) => self.show(span),
-        }
-    }
-
-    // p, t: what a posting or a run's step answers.
-    fn tell_posting(&self, letter: char, answer: PostingAnswer) -> io::Result<()> {
-        let r = PostingReply::from(answer);
-        println!(self.rt;
-            "{letter} {} {} {} {} {} {}",
-            r.refusal, r.number, r.settled, r.paid_out, r.retained, r.interest,
-        )
-    }
-
-    // r, c: what an opening or a close of a run answers.
-    fn tell_run(&self, letter: char, answer: Result<(), Refusal>) -> io::Result<()> {
-        println!(self.rt; "{letter} {}", refusal_of(&answer))
-    }
-
-    fn tell_unclear(&self) -> io::Result<()> {
-        println!(self.rt; "? {}", self.lines)
-    }
-
     // The place among the books of the one that calls go to.
-    fn place(&self) -> usize
+    pub fn place(self) -> usize
         ensures { result < 2 }
     {
         self.current as usize - 1
     }
 
-    // The book that calls go to.
-    fn book(&self) -> &Book {
-        &self.books[self.place()]
-    }
-
-    // Keeps the next book of a call that changes it, and gives the answer.
-    fn keep<A>(&mut self, next: Next<A>) -> A {
-        let at = self.place();
-        self.books[at] = next.book;
-        next.answer
-    }
-
-    fn turn(&mut self, number: BookNumber) -> io::Result<()> {
-        self.current = number;
-        println!(self.rt; "b {}", number as u8)
-    }
-
-    fn post(&mut self, entry: Raw) -> io::Result<()> {
-        let at = self.place();
-        let answer = self.books[at].offer(entry);
-        self.tell_posting('p', answer)
-    }
-
-    // A full list leaves the line unclear.
-    fn list(&mut self, entry: Raw) -> io::Result<()> {
-        match self.list.try_push(entry) {
-            Ok(()) => println!(self.rt; "e {}", self.list.len()),
-            Err(_) => self.tell_unclear(),
+    // With one line more.
+    pub fn next_line(self) -> Session
+        ensures { result ≡ record { current = self.current; lines = min (self.lines + 1) 18446744073709551615 } }
+    {
+        Session {
+            lines: self.lines.saturating_add(1),
+            ..self
         }
-    }
-
-    // The list is empty afterwards.
-    fn carry_over(&mut self, places: Places) -> io::Result<()> {
-        let mut results = [255; PLACES];
-        let results = &mut results[..places.number];
-        let list = self.list.as_slice();
-        let carried = carry_over(*self.book(), list, results);
-        let answer = self.keep(carried);
-        self.list.clear();
-        println!(self.rt; "o {}{}", refusal_of(&answer), Spaced(results))
-    }
-
-    fn statement(&self, account: u16, allowance: u64) -> io::Result<()> {
-        let r = StatementReply::from(statement(self.book(), account, allowance));
-        println!(self.rt;
-            "s {} {} {} {} {} {} {} {} {}",
-            r.refusal,
-            r.arrears,
-            r.credit,
-            r.deposit,
-            r.held,
-            r.links_read,
-            r.bills,
-            r.payments,
-            u8::from(r.complete),
-        )
-    }
-
-    fn contribution(&self, account: u16, node: u8, serial: u32) -> io::Result<()> {
-        let answer = contribution_query(self.book(), account, node, serial);
-        let r = ContributionReply::from(answer);
-        println!(self.rt;
-            "q {} {} {} {} {} {} {} {}",
-            r.refusal,
-            r.amount,
-            r.to_arrears,
-            r.paid_out,
-            r.held,
-            r.retained,
-            r.added,
-            u8::from(r.closed),
-        )
-    }
-
-    // No refusal stops it.
-    fn year(&self, year: u16) -> io::Result<()> {
-        let totals = year_totals(self.book(), year);
-        println!(self.rt;
-            "y 0 {} {} {} {}",
-            totals.bills.0, totals.payments.0, totals.paid_out.0, totals.entries,
-        )
-    }
-
-    fn page(&mut self, account: u16, room: Room) -> io::Result<()> {
-        let book = *self.book();
-        let answer = page(&book, account, &mut self.buffer[..room.number]);
-        println!(self.rt; "g {} {}", refusal_of(&answer), answer.unwrap_or(0))
-    }
-
-    fn save(&mut self, room: Room) -> io::Result<()> {
-        let book = *self.book();
-        let answer = save(&book, &mut self.buffer[..room.number]);
-        println!(self.rt; "w {} {}", refusal_of(&answer), answer.unwrap_or(0))
-    }
-
-    fn load(&mut self, room: Room) -> io::Result<()> {
-        let loaded = load(&self.buffer[..room.number]);
-        let (refusal, record) = match self.keep(loaded) {
-            Ok(()) => (0, 0),
-            Err(fault) => (fault.refusal.into(), fault.record_number()),
-        };
-        println!(self.rt; "l {refusal} {record}")
-    }
-
-    fn open_run(&mut self, node: u8, day: u16, rate: u16) -> io::Result<()> {
-        let ran = open_run(*self.book(), node, day, rate);
-        let answer = self.keep(ran);
-        self.tell_run('r', answer)
-    }
-
-    fn step(&mut self) -> io::Result<()> {
-        let posted = step(*self.book());
-        let answer = self.keep(posted);
-        self.tell_posting('t', answer)
-    }
-
-    fn close_run(&mut self) -> io::Result<()> {
-        let ran = close_run(*self.book());
-        let answer = self.keep(ran);
-        self.tell_run('c', answer)
-    }
-
-    fn set(&mut self, change: &Change) -> io::Result<()> {
-        let bytes = change.bytes.as_slice();
-        self.buffer[change.from..change.from + bytes.len()].copy_from_slice(bytes);
-        println!(self.rt; "x {}", bytes.len())
-    }
-
-    fn show(&self, span: Span) -> io::Result<()> {
-        println!(self.rt;
-            "d{}",
-            Spaced(&self.buffer[span.from..span.from + span.count]),
-        )
     }
 }
