@@ -1,4 +1,10 @@
 // The calls: each writes its letter and the numbers of its answer as a line.
+ghost use Rattle.std.specs.Prelude.{◌≡◌, replicate};
+ghost use Rattle.arrayvec.specs.ArrayVec.{array_vec_len};
+ghost use Rattle.text.specs.declared.calls.BookNumber.TheVariants.{First};
+ghost use Rattle.text.specs.declared.calls.TheConstants.{BUFFER};
+ghost use Rattle.book.specs.Fresh.{fresh_book};
+
 use crate::session::Session;
 use arrayvec::{ArrayString, ArrayVec};
 use book::{Book, Next};
@@ -36,7 +42,13 @@ pub struct Console<'a, P: Print> {
 }
 
 impl<'a, P: Print> Console<'a, P> {
-    pub fn fresh(rt: &'a P) -> Console<'a, P> {
+    // Two fresh books, and nothing read, listed or set.
+    pub fn fresh(rt: &'a P) -> Console<'a, P>
+        ensures books { result.books ≡ replicate 2 fresh_book }
+        ensures session { result.session ≡ record { current = First; lines = 0 } }
+        ensures list { array_vec_len result.list ≡ 0 }
+        ensures buffer { result.buffer ≡ replicate BUFFER 0 }
+    {
         Console {
             rt,
             books: [Book::fresh(); 2],
@@ -226,7 +238,8 @@ impl<'a, P: Print> Console<'a, P> {
         println!(self.rt; "x {}", bytes.len())
     }
 
-    // In one write: `println!` makes several of a line that is longer than its own buffer.
+    // In one write: `println!` makes several of a line that is longer than its own buffer. No answer lacks room; the arm that prints one which did
+    // would write the same bytes.
     fn show(&self, span: Span) -> io::Result<()> {
         let shown = Spaced(&self.buffer[span.from..span.from + span.count]);
         let mut line: ArrayString<LONGEST_ANSWER> = ArrayString::new();
